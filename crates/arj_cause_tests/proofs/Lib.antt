@@ -16,4 +16,5 @@ mod WrongEnds
 pub mod WrongEvents
 mod WrongNodes
 mod WrongRuns
+mod WrongShows
 mod runs

@@ -4,7 +4,9 @@
 -- the lines that events write (`Filling`, `Limit`), and of commits that are done (`Lines`, `Committed`). What is known at each moment gives
 -- rows of what nodes say, where each handler says what has its cause (`Walks`, `Nodes`), event by event in whole runs (`Running`): of
 -- restarts (`Up`), and, with what is known of lines, of records that they find (`Recovered`). Of quiesces, by the lines that events write:
--- what was asked is what was accepted (`Accepted`), so no action waits where every node is idle (`Waiting`, `Quiet`).
+-- what was asked is what was accepted (`Accepted`), so no action waits where every node is idle (`Waiting`, `Quiet`). Of ends that nodes
+-- hear of and of aborts that are done: whoever has ended where it began is over by the journal (`Over`), and of no other action does a
+-- node say so (`Tells`, `Ended`, `Aborts`). Of shows: they say what disks hold (`Held`), which are clean before them (`Shown`).
 pub mod Forms
 pub mod Frames
 pub mod Refused
@@ -21,3 +23,9 @@ pub mod Waiting
 pub mod Quiet
 pub mod Recovered
 pub mod Openings
+pub mod Over
+pub mod Tells
+pub mod Ended
+pub mod Aborts
+pub mod Held
+pub mod Shown

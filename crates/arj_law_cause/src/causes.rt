@@ -1,6 +1,7 @@
 // Rows of causes: lines of the world, and what nodes do.
-ghost use Rattle.arj_law_cause.specs.kinds.Kinds.{is_armed, is_commit_done, is_dropped, is_found, is_got, is_halted, is_limit, is_opening, is_plain_refusal, is_quiet, is_sent, is_up, is_void};
-ghost use Rattle.arj_law_cause.specs.kinds.Rows.{RowHolds, RowHoldsWhere};
+ghost use Rattle.arj_law_cause.specs.kinds.Kinds.{is_abort_done, is_armed, is_commit_done, is_copy_shown, is_dropped, is_entry_shown, is_found, is_got, is_halted, is_limit, is_opening, is_plain_refusal, is_quiet, is_sent, is_told, is_up, is_void};
+ghost use Rattle.arj_law_cause.specs.kinds.Rows.{RowHolds, RowHoldsWhere, TestHolds};
+ghost use Rattle.arj_law_cause.specs.kinds.Tests.{is_copy_so, is_entry_so, is_told_so};
 
 /// In every run in form, wherever it begins and wherever disks stop, each line of a frame has its cause by the events and the lines before
 /// it, row by row: a frame that is sent has the next number and goes from a node that is up, or from nobody where the script hands over
@@ -59,4 +60,20 @@ pub fn recoveries_have_causes()
 /// or one above it. It does nothing when it runs.
 pub fn openings_have_causes()
     ensures opening { RowHolds is_opening }
+{}
+
+/// In every such run an abort is done, at a store or at naming, of an action that is over by the lines before, and of one that was decided
+/// only where the node had a cause. A server or naming says that it was told of an end of an action that ended so by the lines before: it is
+/// committed where the end is a commit, and over where it is an abort. It does nothing when it runs.
+pub fn ends_have_causes()
+    ensures aborts { RowHolds is_abort_done }
+    ensures told { TestHolds is_told_so is_told }
+{}
+
+/// In every such run a line `entry` stands in a show of its object, with the object's entry as the lines before the event say, counted from
+/// where the run began. A line `copy` stands in a show of its object; of a store that is listed, where the event has shown the entry, it is
+/// the last state so counted. It does nothing when it runs.
+pub fn shows_have_causes()
+    ensures entries { TestHolds is_entry_so is_entry_shown }
+    ensures copies { TestHolds is_copy_so is_copy_shown }
 {}

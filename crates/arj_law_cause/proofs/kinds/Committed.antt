@@ -1,6 +1,6 @@
 -- The row of commits that are done: each is of an action that is committed by then.
 use Rattle.arj_law_parts.proofs.Words
-use Words.{◌≡◌, ◌∙◌, ◌&&◌, true, false, List, Option, Some, None, refl, sym, ap, subst, find, uid_eq, uid_is}
+use Words.{◌≡◌, ◌∙◌, ◌&&◌, ◌++◌, ◌∷◌, true, false, List, Option, Some, None, refl, sym, ap, subst, find, uid_eq, uid_is}
 use Words.{uid_same, In}
 use Words.{in_find, in_find_none, in_from, Body, Header, Line, Uid, see, world_by}
 use Words.body
@@ -35,11 +35,11 @@ act_found xs distinct a there u is = by (find (λ (x : Act). uid_eq x.uid u) xs)
         ap Some (one_act xs distinct b a r.0 there (uid_is b.uid u r.1 ∙ sym is))
 
 -- so it is known of a line
-record IsDecided (before : List Line) (b : Body) : Type 0 where
+pub record IsDecided (before : List Line) (b : Body) : Type 0 where
   pub distinct : AreDistinct (acts before)
   pub caused : IsCaused before b
 
-committed_so : (h : Here) (u : Uid) → AreDistinct (acts h.lines) → IsCommittedIn h.lines u →
+pub committed_so : (h : Here) (u : Uid) → AreDistinct (acts h.lines) → IsCommittedIn h.lines u →
     holds_in (λ a. is_committed (committed h.lines) (recovered h.lines) a) (act_by h.lines u) ≡ true
 committed_so h u distinct c =
     ap (holds_in (λ a. is_committed (committed h.lines) (recovered h.lines) a))
@@ -87,12 +87,16 @@ right_lines hd r =
     let h : Holds hd KnowsAll (world_by hd r) = moves_asked hd KnowsAll (keeps_asked hd KnowsAll (halts_keep hd)) r in
     let k = h.holds in let written : IsWritten (see h.sent (world_by hd r)) = k.0.1 in written.right
 
+pub decided_line : (lines : List Line) → AreRight new_book lines → (before : List Line) (line : Line) (behind : List Line) →
+    lines ≡ before ++ line ∷ behind → IsDecided before line.body
+decided_line lines right before line behind is = record {
+  distinct = (let front = (right_before new_book before line behind (subst (AreRight new_book) is right)).0 in
+      let s = its_sound before front in s.distinct);
+  caused = caused lines right before line behind is;
+}
+
 pub done_row : RowHolds is_commit_done
 done_row hd r form =
     let lines = journal_by hd r in
-    let right = right_lines hd r in
-    lines_row IsDecided is_commit_done to_cause lines (λ before line behind is. record {
-      distinct = (let front = (right_before new_book before line behind (subst (AreRight new_book) is right)).0 in
-          let s = its_sound before front in s.distinct);
-      caused = caused lines right before line behind is;
-    }) hd (FramesStep hd) r.start (run_events hd r) (frames_are_caused hd r form)
+    lines_row IsDecided is_commit_done to_cause lines (decided_line lines (right_lines hd r))
+    hd (FramesStep hd) r.start (run_events hd r) (frames_are_caused hd r form)

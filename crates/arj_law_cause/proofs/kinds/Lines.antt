@@ -54,8 +54,8 @@ module _ (T : List Line → Body → Type 0) (of : Body → Bool) (to : (h : Her
     lines_row hd P st es r = (r.0, r.1, along_so hd P es _ r.0 r.1 r.3 r.2, r.3, r.4)
 
 -- Rows of what is known of each line by the lines before it, and by a test that lines of the kind pass.
-module _ (T : List Line → Body → Type 0) (of : Body → Bool) (test : Here → Body → Bool) (to : (h : Here) (b : Body) → of b ≡ true →
-    T h.lines b → test h b ≡ true → has_cause h b ≡ true)
+module _ (T : List Line → Body → Type 0) (of : Body → Bool) (test goal : Here → Body → Bool) (to : (h : Here) (b : Body) → of b ≡ true →
+    T h.lines b → test h b ≡ true → goal h b ≡ true)
     (lines : List Line) (each : (before : List Line) (line : Line) (behind : List Line) → lines ≡ before ++ line ∷ behind →
     T before line.body)
   where
@@ -63,20 +63,20 @@ module _ (T : List Line → Body → Type 0) (of : Body → Bool) (test : Here �
     of_kind h = of
 
     so_with : (h : Here) (bs : List Body) (more : List Line) → lines ≡ h.lines ++ (numbered h.number bs ++ more) →
-        are_so (tested test of_kind) h bs ≡ true → are_so (row of_kind) h bs ≡ true
+        are_so (tested test of_kind) h bs ≡ true → are_so (tested goal of_kind) h bs ≡ true
     so_with h [] more is passes = refl
     so_with h (b ∷ bs) more is passes =
         let p = and_parts (tested test of_kind h b) (are_so (tested test of_kind) (behind h b) bs) passes in
         λ i. one (of b) refl p.0 i && so_with (behind h b) bs more
         (is ∙ sym (append_assoc h.lines (record { event = h.number; body = b } ∷ []) (numbered h.number bs ++ more))) p.1 i
       where
-        one : (x : Bool) → of b ≡ x → (not (of b) || test h b) ≡ true → (not x || has_cause h b) ≡ true
+        one : (x : Bool) → of b ≡ x → (not (of b) || test h b) ≡ true → (not x || goal h b) ≡ true
         one false other passed = refl
         one true its passed = to h b its (each h.lines (record { event = h.number; body = b }) (numbered h.number bs ++ more) is)
             ((λ i. not (sym its i) || test h b) ∙ passed)
 
     along_with : (hd : Header) (es : List Event) (p end : Past) (ending : List Line) → lines ≡ end.lines ++ ending →
-        Along (TestedStep test of_kind hd) p es end → Along (RowStep of_kind hd) p es end
+        Along (TestedStep test of_kind hd) p es end → Along (TestedStep goal of_kind hd) p es end
     along_with hd [] p end ending is a = a
     along_with hd (e ∷ es) p end ending is a =
         let r = more_lines (TestedStep test of_kind hd) es (next p e a.0) end a.2 in (
@@ -88,5 +88,5 @@ module _ (T : List Line → Body → Type 0) (of : Body → Bool) (test : Here �
         )
 
     pub tested_row : (hd : Header) (st : Start) (es : List Event) → Runs (TestedStep test of_kind hd) st es lines →
-        Runs (RowStep of_kind hd) st es lines
+        Runs (TestedStep goal of_kind hd) st es lines
     tested_row hd st es r = (r.0, r.1, along_with hd es _ r.0 r.1 r.3 r.2, r.3, r.4)

@@ -321,6 +321,6 @@ pub opening_row : RowHolds is_opening
 opening_row hd r form =
     let lines = journal_by hd r in
     let right = right_lines hd r in
-    tested_row IsRightLine is_opening fits to_cause lines (λ before line behind is.
+    tested_row IsRightLine is_opening fits has_cause to_cause lines (λ before line behind is.
     let x = right_before new_book before line behind (subst (AreRight new_book) is right) in record { right = x.0; its = x.1 })
     hd r.start (run_events hd r) (known lines right hd r.start (run_events hd r) (lines_follow hd r form))

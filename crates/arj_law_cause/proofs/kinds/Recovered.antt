@@ -269,7 +269,7 @@ found_row hd r form =
     let lines = journal_by hd r in
     let right = right_lines hd r in
     let keeps = wide_all hd KnowsNext (next_keep hd) in
-    tested_row IsRightLine is_found in_restart to_cause lines (λ before line behind is.
+    tested_row IsRightLine is_found in_restart has_cause to_cause lines (λ before line behind is.
     let x = right_before new_book before line behind (subst (AreRight new_book) is right) in record { right = x.0; its = x.1 })
     hd r.start (run_events hd r)
     (row_run in_restart is_found quiet no_halt hd (Wide KnowsNext) keeps (nothing_more hd (Wide KnowsNext) keeps.steps)

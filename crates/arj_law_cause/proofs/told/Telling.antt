@@ -3,6 +3,7 @@ use Rattle.arj_law_parts.proofs.Words
 use Words.{Header, journal_by}
 use Rattle.arj_law_runs.specs.follow.Frames.{run_events}
 use Rattle.arj_promise.specs.Runs.{IsInForm, Run}
+use Rattle.arj_law_cause.proofs.kinds.Aborts.{abort_row, told_row}
 use Rattle.arj_law_cause.proofs.kinds.Committed.{done_row}
 use Rattle.arj_law_cause.proofs.kinds.Frames.{armed_row, dropped_row, got_row, halted_row, sent_row, void_row}
 use Rattle.arj_law_cause.proofs.kinds.Limit.{limit_row}
@@ -10,6 +11,7 @@ use Rattle.arj_law_cause.proofs.kinds.Openings.{opening_row}
 use Rattle.arj_law_cause.proofs.kinds.Quiet.{quiet_row}
 use Rattle.arj_law_cause.proofs.kinds.Recovered.{found_row}
 use Rattle.arj_law_cause.proofs.kinds.Refused.{refused_row}
+use Rattle.arj_law_cause.proofs.kinds.Shown.{copy_row, entry_row}
 use Rattle.arj_law_cause.proofs.kinds.Up.{up_row}
 use Rattle.arj_law_cause.proofs.told.Joined.{events_follow}
 use Rattle.arj_law_cause.proofs.rows.Whole.{answers_are_caused}
@@ -35,6 +37,8 @@ module _ (hd : Header) (r : Run hd) (form : IsInForm hd r) where
     up = up_row hd r form;
     found = found_row hd r form;
     done = done_row hd r form;
+    undone = abort_row hd r form;
+    told = told_row hd r form;
   }
 
   world_told : TellsWorld hd r.start (run_events hd r) (journal_by hd r)
@@ -45,6 +49,8 @@ module _ (hd : Header) (r : Run hd) (form : IsInForm hd r) where
     dropped = dropped_row hd r form;
     limit = limit_row hd r form;
     quiet = quiet_row hd r form;
+    entries = entry_row hd r form;
+    copies = copy_row hd r form;
   }
 
 pub journals_tell : JournalsTell

@@ -74,3 +74,23 @@ is_opening (body.Committing l) = true
 is_opening (body.Ended l) = true
 is_opening (body.Aborted l cause.Asked) = true
 is_opening _ = false
+
+-- an abort was done, at a store or at naming
+abbrev pub is_abort_done : Body → Bool
+is_abort_done (body.Done n u r ending.Abort) = true
+is_abort_done _ = false
+
+-- a server or naming was told of an end, where it had locks
+abbrev pub is_told : Body → Bool
+is_told (body.Told n u e p) = true
+is_told _ = false
+
+-- the line shows an object's entry
+abbrev pub is_entry_shown : Body → Bool
+is_entry_shown (body.Entry x v servers stores) = true
+is_entry_shown _ = false
+
+-- the line shows what a store holds of an object
+abbrev pub is_copy_shown : Body → Bool
+is_copy_shown (body.Copy n x v u payload) = true
+is_copy_shown _ = false

@@ -34,3 +34,7 @@ RowHoldsWhere of = (hd : Header) (r : Run hd) → IsInForm hd r → Runs (RowSte
 -- so it is of each line of a kind
 abbrev pub RowHolds : (Body → Bool) → Type 0
 RowHolds of = RowHoldsWhere (λ h. of)
+
+-- In every run in form, wherever it begins and wherever disks stop, each line of the kind passes this test.
+abbrev pub TestHolds : (Here → Body → Bool) → (Body → Bool) → Type 0
+TestHolds test of = (hd : Header) (r : Run hd) → IsInForm hd r → Runs (TestedStep test (λ h. of) hd) r.start (run_events hd r) (journal_by hd r)

@@ -8,9 +8,11 @@ use Rattle.arj_journal.specs.declared.header.Header.{Header}
 use Rattle.arj_model.specs.CauseSpans.{Here}
 use Rattle.arj_model.specs.Follows.{Runs}
 use Rattle.arj_start.specs.Start.{Start}
-use Rattle.arj_law_cause.specs.kinds.Kinds.{is_armed, is_commit_done, is_dropped, is_found, is_got, is_halted, is_limit, is_opening, is_plain_refusal}
-use Rattle.arj_law_cause.specs.kinds.Kinds.{is_quiet, is_sent, is_up, is_void}
-use Rattle.arj_law_cause.specs.kinds.Rows.{RowStep}
+use Rattle.arj_law_cause.specs.kinds.Kinds.{is_abort_done, is_armed, is_commit_done, is_copy_shown, is_dropped, is_entry_shown}
+use Rattle.arj_law_cause.specs.kinds.Kinds.{is_found, is_got, is_halted, is_limit, is_opening, is_plain_refusal, is_quiet, is_sent, is_told}
+use Rattle.arj_law_cause.specs.kinds.Kinds.{is_up, is_void}
+use Rattle.arj_law_cause.specs.kinds.Rows.{RowStep, TestedStep}
+use Rattle.arj_law_cause.specs.kinds.Tests.{is_copy_so, is_entry_so, is_told_so}
 use Rattle.arj_law_cause.specs.rows.Lines.{AnswersStep}
 use Rattle.arj_law_cause.specs.told.Steps.{StepSo}
 use Rattle.arj_law_cause.specs.waits.replies.Ends.{RepliesStep}
@@ -53,6 +55,10 @@ pub record TellsNodes (hd : Header) (st : Start) (es : List Event) (journal : Li
   pub found : HaveCauses is_found hd st es journal
   -- a commit is done of an action that is committed
   pub done : HaveCauses is_commit_done hd st es journal
+  -- an abort is done of one that is over, and of a decided one only for a cause
+  pub undone : HaveCauses is_abort_done hd st es journal
+  -- an action ended as a node says that it was told
+  pub told : Runs (TestedStep is_told_so (λ h. is_told) hd) st es journal
 
 -- What goes between nodes, and when a run rests.
 pub record TellsWorld (hd : Header) (st : Start) (es : List Event) (journal : List Line) : Type 0 where
@@ -67,6 +73,10 @@ pub record TellsWorld (hd : Header) (st : Start) (es : List Event) (journal : Li
   pub limit : HaveCauses is_limit hd st es journal
   -- a quiesce says that all is quiet where every node is up, no frame is open, and no action waits
   pub quiet : HaveCauses is_quiet hd st es journal
+  -- an entry is shown as the lines before the event say, counted from where the run began
+  pub entries : Runs (TestedStep is_entry_so (λ h. is_entry_shown) hd) st es journal
+  -- and, where it was, a listed store shows the last state so counted
+  pub copies : Runs (TestedStep is_copy_so (λ h. is_copy_shown) hd) st es journal
 
 -- What a journal says of why it is so, by subject.
 pub record TellsItsCauses (hd : Header) (st : Start) (es : List Event) (journal : List Line) : Type 0 where

@@ -1,0 +1,119 @@
+-- Shows behind a start that isn't fresh, and ends that nodes are told of: which lines of a kind don't pass the test of their row.
+use Rattle.std.specs.Prelude.{◌≡◌, ◌+◌, ◌++◌, ℕ, Bool, List, [], ◌∷◌, length, refl, if◌then◌else◌}
+use Rattle.arj_base.specs.declared.mode.End.TheVariants.{Abort, Commit}
+use Rattle.arj_class.specs.declared.value.Value.TheVariants as value
+use Rattle.arj_journal.specs.declared.body.Body.{Body}
+use Rattle.arj_journal.specs.declared.body.Body.TheVariants as body
+use Rattle.arj_journal.specs.declared.body.Part.TheVariants as part
+use Rattle.arj_journal.specs.declared.event.Event.TheVariants as event
+use Rattle.arj_journal.specs.declared.header.Header.{Header}
+use Rattle.arj_model.specs.CauseSpans.{Here, behind, here_at}
+use Rattle.arj_model.specs.Past.{Past, at_start, next}
+use Rattle.arj_start.specs.Start.{Start, fresh}
+use Rattle.arj_law_cause.specs.kinds.Kinds.{is_copy_shown, is_entry_shown, is_told}
+use Rattle.arj_law_cause.specs.kinds.Rows.{tested}
+use Rattle.arj_law_cause.specs.kinds.Tests.{is_copy_so, is_entry_so, is_told_so}
+use Rattle.arj_cause_tests.proofs.Words.{Run, Wrote, instead, lacking_from, nodes, object_line, run, u}
+use Rattle.arj_cause_tests.proofs.Worked.{conflict, exclusion, nested_abort, rebinding}
+
+-- the places of those lines of an event that don't pass a test, from 1
+abbrev failing_in : (Here → Body → Bool) → Here → List Body → List ℕ
+failing_in test h [] = []
+failing_in test h (b ∷ rest) =
+    if test h b then failing_in test (behind h b) rest else (length h.lines + 1) ∷ failing_in test (behind h b) rest
+
+-- the same over events
+abbrev failing_from : (Here → Body → Bool) → Header → Past → List Wrote → List ℕ
+failing_from test header past [] = []
+failing_from test header past (w ∷ rest) =
+    failing_in test (here_at header past w.0 w.1) w.1 ++ failing_from test header (next past w.0 w.1) rest
+
+-- the places of those lines of a run from this start
+abbrev failing : (Here → Body → Bool) → (Body → Bool) → Start → Run → List ℕ
+failing test of st r = failing_from (tested test (λ h. of)) r.header (at_start st) r.wrote
+
+-- lines of an entry that aren't as the journal says, and of a copy, and of an end, from a start
+abbrev entries : Start → Run → List ℕ
+entries = failing is_entry_so is_entry_shown
+
+abbrev copies : Start → Run → List ℕ
+copies = failing is_copy_so is_copy_shown
+
+abbrev tolds : Run → List ℕ
+tolds = failing is_told_so is_told fresh
+
+-- ---- a run that goes on: object 1 has its fourth entry, and stores hold its sixth state
+
+-- the bytes of a counter
+abbrev bytes : ℕ → List ℕ
+bytes n = 0 ∷ 0 ∷ 0 ∷ 0 ∷ 0 ∷ 0 ∷ 0 ∷ n ∷ []
+
+-- the marks of object 1
+abbrev goes_on : Start
+goes_on = record fresh {
+  marks = record {
+    entries = λ x. record { version = 3; writer = u 1 2 1 };
+    states = λ x. record { version = 5; writer = u 1 2 4 };
+  };
+}
+
+-- a show right after it began
+abbrev shown : Run
+shown = run (nodes 3 (object_line 1 (value.Counter 7) (1 ∷ []) (2 ∷ 3 ∷ []) ∷ [])) (
+    (event.Show 1, body.Entry 1 3 (1 ∷ []) (2 ∷ 3 ∷ []) ∷ body.Copy 2 1 5 (u 1 2 4) (bytes 7) ∷ body.Copy 3 1 5 (u 1 2 4) (bytes 7) ∷ [])
+    ∷ []
+    )
+
+shown_so : entries goes_on shown ++ copies goes_on shown ≡ []
+shown_so = refl
+
+-- counted from version 0 its lines have no cause
+shown_from_nothing : lacking_from shown.header (at_start goes_on) shown.wrote ≡ 1 ∷ 2 ∷ 3 ∷ []
+shown_from_nothing = refl
+
+entry_version : entries goes_on (instead 1 (body.Entry 1 0 (1 ∷ []) (2 ∷ 3 ∷ [])) shown) ≡ 1 ∷ []
+entry_version = refl
+
+entry_stores : entries goes_on (instead 1 (body.Entry 1 3 (1 ∷ []) (2 ∷ [])) shown) ≡ 1 ∷ []
+entry_stores = refl
+
+entry_servers : entries goes_on (instead 1 (body.Entry 1 3 (2 ∷ []) (2 ∷ 3 ∷ [])) shown) ≡ 1 ∷ []
+entry_servers = refl
+
+entry_object : entries goes_on (instead 1 (body.Entry 2 3 (1 ∷ []) (2 ∷ 3 ∷ [])) shown) ≡ 1 ∷ []
+entry_object = refl
+
+copy_version : copies goes_on (instead 2 (body.Copy 2 1 0 (u 1 2 4) (bytes 7)) shown) ≡ 2 ∷ []
+copy_version = refl
+
+copy_writer : copies goes_on (instead 3 (body.Copy 3 1 5 (u 1 2 1) (bytes 7)) shown) ≡ 3 ∷ []
+copy_writer = refl
+
+copy_value : copies goes_on (instead 2 (body.Copy 2 1 5 (u 1 2 4) (bytes 8)) shown) ≡ 2 ∷ []
+copy_value = refl
+
+-- where no entry is shown another version may stand, at a store that a commit excludes say
+copy_alone : copies goes_on (instead 1 (body.Halted 1) (instead 2 (body.Copy 2 1 0 (u 1 2 4) (bytes 7)) shown)) ≡ []
+copy_alone = refl
+
+-- ---- a fresh run
+
+exclusion_so : entries fresh exclusion ++ copies fresh exclusion ≡ []
+exclusion_so = refl
+
+entry_late : entries fresh (instead 34 (body.Entry 1 1 (1 ∷ []) (2 ∷ [])) exclusion) ≡ 34 ∷ []
+entry_late = refl
+
+copy_late : copies fresh (instead 34 (body.Copy 2 1 1 (u 1 1 1) (bytes 1)) exclusion) ≡ 34 ∷ []
+copy_late = refl
+
+-- ---- ends
+
+tolds_so : tolds nested_abort ++ (tolds conflict ++ tolds exclusion) ≡ []
+tolds_so = refl
+
+told_commit : tolds (instead 41 (body.Told 3 (u 1 1 1) Commit part.Server) rebinding) ≡ 41 ∷ []
+told_commit = refl
+
+told_abort : tolds (instead 12 (body.Told 1 (u 1 1 1) Abort part.Server) nested_abort) ≡ 12 ∷ []
+told_abort = refl
