@@ -152,7 +152,7 @@ end_names x g (Conflict holder m n) l is = tt
 end_names x g (Changed n w) l is = tt
 end_names x g (Lost n sent) l is = tt
 
-one_of : {A : Type 0} (P : A → Type 0) (xs : List A) (a : A) → AllByRecursion P xs → In a xs → P a
+pub one_of : {A : Type 0} (P : A → Type 0) (xs : List A) (a : A) → AllByRecursion P xs → In a xs → P a
 one_of P [] a all i = absurd i
 one_of P (x ∷ xs) a all (inl is) = subst P is all.0
 one_of P (x ∷ xs) a all (inr i) = one_of P xs a all.1 i

@@ -72,7 +72,7 @@ module _ (hd : Header) (form : HeaderInForm hd) (all : List Line) (fit : (u : Ui
   body_form (body.GaveUp l n) world labels node action up names is = (labels, node_form hd form n node)
   body_form (body.Excluded l x n) world labels node action up names is = (labels, names.0, node_form hd form n node)
   body_form (body.Granted n u o m) world labels node action up names is =
-      let r = names.1 is in (node_form hd form n node, fit u r.0, r.1)
+      let r = names.1 in (node_form hd form n node, fit u r.0, r.1)
   body_form (body.Lowered n u o) world labels node action up names is =
       let r = names.1 in (node_form hd form n node, fit u r.0, r.1)
   body_form (body.Bound x b n) world labels node action up names is = absurd (cc is)
@@ -80,8 +80,7 @@ module _ (hd : Header) (form : HeaderInForm hd) (all : List Line) (fit : (u : Ui
   body_form (body.Told n u ending.Commit p) world labels node action up names is = action refl
   body_form (body.Told n u ending.Abort p) world labels node action up names is = absurd (cc is)
   body_form (body.Prepared n u r) world labels node action up names is = (node_form hd form n node, fit u names.1)
-  body_form (body.Done n u r ending.Commit) world labels node action up names is = action refl
-  body_form (body.Done n u r ending.Abort) world labels node action up names is = absurd (cc is)
+  body_form (body.Done n u r e) world labels node action up names is = (node_form hd form n node, fit u names.1)
   body_form (body.Up n i) world labels node action up names is = (node_form hd form n node, up node)
   body_form (body.Recovered n u) world labels node action up names is = action refl
   body_form (body.Entry x v s t) world labels node action up names is = absurd (cc is)

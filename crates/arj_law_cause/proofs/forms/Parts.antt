@@ -2,7 +2,7 @@
 use Rattle.arj_law_parts.proofs.Words
 use Words.{⊤, ◌≡◌, ◌==◌, ◌||◌, ◌++◌, arith, not, ℕ, Bool, true, false, cond, List, [], ◌∷◌, filter, flat_map, Option, Some, None}
 use Words.{AllByRecursion, is_some, either, sym, ap, Body, Uid, object, entry, Binding, End, Head, Op, Path, Row, What}
-use Words.{InvokedReply, VotedReply, BoundReply, RecordedReply, ConfirmedReply, ObjectState, Entry, Ask, Reply, actor, uids_of, top_of}
+use Words.{InvokedReply, VotedReply, RecordedReply, ConfirmedReply, ObjectState, Entry, Ask, Reply, actor, uids_of, top_of}
 use Words.{op_mode, first_conflict, is_on, Effect, Say, Send, Do, Look, Prepare, Did, Served, void, reply, did_nothing, Copy, ask_copy}
 use Words.{invoke_copy, is_granted, Server, activate, active_binding, apply_ends, changed_by, end_one, end_new, first_unbound, has_ended, invoke}
 use Words.{invoke_kept, invoke_new, invoke_now, is_below, is_told, Kept, on_copy, other_inc, took_copy, vote, vote_now, binding_less, binding_eq}
@@ -14,6 +14,10 @@ use Words.{prepared_by, Prep, Already, InDoubt, Old, Ready, Pair, is_prepared, p
 use Words.{serve, sends_answer, if_naming, with_server, with_naming, load_by, load_held, prepare_by, prepare_states, held_at, holder_of}
 use Words.{handle_told, handle_ends, store_told, naming_told, ack_told, end_states, option_map, asked_by, response, Message, asks, answers}
 use Words.{handle, handle_ask, handle_answer, handle_other, last_end, query_about, is_earlier, holders, Asked, ◌∙◌, ◌+◌, refl}
+use Words.{Work, uid_order, uid_eq, is_eq, Ordering, Less, Equal, Greater, loses_row}
+use Words.{subst}
+use Words.{map}
+use Words.{wants_lock, ◌&&◌}
 use Words.ask
 use Words.body
 use Words.ending
@@ -28,36 +32,67 @@ use Words.naming
 use Words.server
 use Words.what
 use Rattle.arj_base.specs.Uid.{UidFits}
+use Rattle.arj_law_disk_view.proofs.running.Lists.{all_filter, all_keys}
+use Rattle.arj_law_disk_view.proofs.view.Keys.{order_exact}
 use Rattle.arj_law_promise.proofs.Terms.{all_append, all_map}
 use Rattle.arj_law_serial.proofs.Terms.{is_for_parts}
-use Rattle.arj_law_parts.specs.steps.Spoken.{SaidIn}
 use Rattle.arj_law_cause.proofs.forms.Coords.{NamesObjects}
-use Rattle.arj_model.specs.Table.{is_entry}
 use Rattle.arj_msg.specs.InForm.{IsObject}
 
 object_fits : (x : ℕ) → IsObject x → UidFits (object x)
 object_fits x is = let high = is.1 in (omega arith, omega arith, omega (arith, high))
 
-entry_fits : (x : ℕ) → IsObject x → UidFits (entry x)
+pub entry_fits : (x : ℕ) → IsObject x → UidFits (entry x)
 entry_fits x is = let high = is.1 in (omega arith, omega arith, omega (arith, high))
 
--- whoever a line of locks and of what is prepared names is such, and it names an object; but for locks on entries
+-- whoever a line of locks, of what is prepared and of what is done names is such, and it names an object
 abbrev pub NamesSuch : (Uid → Type 0) → Body → Type 0
-NamesSuch U (body.Granted n u o m) = is_entry o ≡ false → U u × UidFits o
+NamesSuch U (body.Granted n u o m) = U u × UidFits o
 NamesSuch U (body.Lowered n u o) = U u × UidFits o
 NamesSuch U (body.Prepared n u r) = U u
+NamesSuch U (body.Done n u r e) = U u
 NamesSuch U b = ⊤
 
 -- so it does, and what it says of a coordinator's objects is so
 abbrev pub SaysSo : (Uid → Type 0) → Body → Type 0
 SaysSo U b = NamesObjects b × NamesSuch U b
 
+-- whoever prepares is such
+abbrev pub WorkSo : (Uid → Type 0) → Work → Type 0
+WorkSo U (Prepare r u states) = U u
+WorkSo U w = ⊤
+
+-- so it is of an effect
+abbrev pub EffectSo : (Uid → Type 0) → Effect → Type 0
+EffectSo U (Say b) = SaysSo U b
+EffectSo U (Do w) = WorkSo U w
+EffectSo U (Send to m) = ⊤
+
+-- whoever has something prepared in a pair is such
+abbrev pub KeysSo : (Uid → Type 0) → Pair → Type 0
+KeysSo U d = AllByRecursion (λ (e : Uid × List ObjectState). U e.0) d.pend
+
+-- and on a disk
+abbrev pub PendsSo : (Uid → Type 0) → Disk → Type 0
+PendsSo U d = KeysSo U d.store × KeysSo U d.names
+
+key_of : {X : Type 0} (Q : Uid → Type 0) (u : Uid) (m : List (Uid × X)) → AllByRecursion (λ (e : Uid × X). Q e.0) m →
+    is_some (at_uid u m) ≡ true → Q u
+key_of Q u [] all is = absurd (cc is)
+key_of {X} Q u (e ∷ es) all is = by (uid_order u e.0) refl is (key_of Q u es all.1)
+  where
+    by : (r : Ordering) → uid_order u e.0 ≡ r → is_some (cond (is_eq r) (Some e.1) (at_uid u es)) ≡ true →
+        (is_some (at_uid u es) ≡ true → Q u) → Q u
+    by Equal same s ih = subst Q (sym (order_exact u e.0 same)) all.0
+    by Less same s ih = ih s
+    by Greater same s ih = ih s
+
 module _ (U : Uid → Type 0) where
   abbrev pub Says : List Effect → Type 0
-  Says outs = AllByRecursion (SaidIn (SaysSo U)) outs
+  Says outs = AllByRecursion (EffectSo U) outs
 
   both : (es fs : List Effect) → Says es → Says fs → Says (es ++ fs)
-  both es fs a b = all_append (SaidIn (SaysSo U)) es fs a b
+  both es fs a b = all_append (EffectSo U) es fs a b
 
   -- ---- ends
 
@@ -97,7 +132,7 @@ module _ (U : Uid → Type 0) where
       where
         by : (b : Bool) → Says (cond b [] (Say (body.Granted n (actor h.path) (object x) (op_mode o)) ∷ []))
         by true = tt
-        by false = ((tt, λ other. (asks, object_fits x is_object)), tt)
+        by false = ((tt, (asks, object_fits x is_object)), tt)
 
     copy_says : (c : Copy) (r : Option Row) → Says (let a = ask_copy n h.path x o c r in a.outs)
     copy_says c (Some r) = tt
@@ -150,23 +185,23 @@ module _ (U : Uid → Type 0) where
   -- ---- naming
 
   module _ (p : Path) (top : U (top_of p)) where
-    lines_say : (x : ℕ) (m : _) (o : Named) → Says (lock_lines x p m o)
-    lines_say x m o = by (is_granted (entry x) (top_of p) m o.rows)
+    lines_say : (x : ℕ) → IsObject x → (m : _) (o : Named) → Says (lock_lines x p m o)
+    lines_say x is_object m o = by (is_granted (entry x) (top_of p) m o.rows)
       where
         by : (b : Bool) → Says (cond b [] (Say (body.Granted 1 (top_of p) (entry x) m) ∷ []))
         by true = tt
-        by false = ((tt, λ other. absurd (cc other)), tt)
+        by false = ((tt, (top, entry_fits x is_object)), tt)
 
-    module _ (x inc : ℕ) (e : Entry) (c : Counted) where
+    module _ (x : ℕ) (is_object : IsObject x) (inc : ℕ) (e : Entry) (c : Counted) where
       live_says : (l : Live) (r : Option Row) → Says (let z = live_asked inc x p e c l r in z.outs)
       live_says l (Some r) = tt
-      live_says l None = lines_say x mode.Read c.named
+      live_says l None = lines_say x is_object mode.Read c.named
 
       made_says : (q : Option Made) → Says (let z = bind_made inc x p e c q in z.outs)
-      made_says (Some m) = lines_say x mode.Write c.named
+      made_says (Some m) = lines_say x is_object mode.Write c.named
       made_says None = both (lock_lines x p mode.Write c.named)
           (Say (body.Bound x (record { inc = inc; count = c.count + 1 }) (next_server c.named.turn e.servers)) ∷ [])
-          (lines_say x mode.Write c.named) ((tt, tt), tt)
+          (lines_say x is_object mode.Write c.named) ((tt, tt), tt)
 
       make_says : (avoid : Binding) (r : Option Row) → Says (let z = make_asked inc x p avoid e c r in z.outs)
       make_says avoid (Some r) = tt
@@ -178,21 +213,18 @@ module _ (U : Uid → Type 0) where
 
       include_says : (r : Option Row) → Says (let z = include_asked inc x p e c r in z.outs)
       include_says (Some r) = tt
-      include_says None = lines_say x mode.Write c.named
+      include_says None = lines_say x is_object mode.Write c.named
 
       bound_says : (include : Bool) (avoid : Binding) → Says (let z = bind_named inc x p include avoid e c in z.outs)
       bound_says true avoid = include_says (conflict_on x p mode.Write c.named)
       bound_says false avoid = call_says avoid (live_above avoid c.named.live)
 
-    pub bind_says : (x : ℕ) (include : Bool) (avoid : Binding) (d : Pair) (n : Naming) → Says (let r = bind p x include avoid d n in r.outs)
-    bind_says x include avoid d n = by (is_over p n)
+    pub bind_says : (x : ℕ) → IsObject x → (include : Bool) (avoid : Binding) (d : Pair) (n : Naming) → Says (let r = bind p x include avoid d n in r.outs)
+    bind_says x is_object include avoid d n = by (is_over p n)
       where
-        call : Counted → Served Counted BoundReply
-        call = bind_named n.inc x p include avoid (listed_entry x d)
-
         there : (o : Option Named) → Says (let r = on_counted x (bind_named n.inc x p include avoid (listed_entry x d)) n o in r.outs)
         there None = tt
-        there (Some o) = bound_says x n.inc (listed_entry x d) (record { named = o; count = n.count }) include avoid
+        there (Some o) = bound_says x is_object n.inc (listed_entry x d) (record { named = o; count = n.count }) include avoid
 
         by : (b : Bool) → Says (let r = cond b (void n) (on_counted x (bind_named n.inc x p include avoid (listed_entry x d)) n
             (at_number x n.objects)) in r.outs)
@@ -246,29 +278,36 @@ module _ (U : Uid → Type 0) where
           by false true = there (at_number x n.objects)
           by false false = tt
 
-    locks_say : (xs : List ℕ) (n : Naming) → Says (let t = lock_all xs p n in t.outs)
-    locks_say [] n = tt
-    locks_say (x ∷ xs) n = both (let t = lock_in x p n (at_number x n.objects) in t.outs)
+    locks_say : (xs : List ℕ) → AllByRecursion IsObject xs → (n : Naming) → Says (let t = lock_all xs p n in t.outs)
+    locks_say [] all n = tt
+    locks_say (x ∷ xs) all n = both (let t = lock_in x p n (at_number x n.objects) in t.outs)
         (let t = lock_all xs p (let z = lock_in x p n (at_number x n.objects) in z.part) in t.outs) (one (at_number x n.objects))
-        (locks_say xs (let t = lock_in x p n (at_number x n.objects) in t.part))
+        (locks_say xs all.1 (let t = lock_in x p n (at_number x n.objects) in t.part))
       where
         one : (o : Option Named) → Says (let t = lock_in x p n o in t.outs)
         one None = tt
-        one (Some o) = lines_say x mode.Exclude o
+        one (Some o) = lines_say x all.0 mode.Exclude o
 
-    pub confirm_says : (grants : Grants) (excluded included : Marks) (d : Pair) (n : Naming) →
-        Says (let r = confirm p grants excluded included d n in r.outs)
-    confirm_says grants excluded included d n =
+    pub confirm_says : (grants : Grants) → AllByRecursion (λ (g : ℕ × ℕ). IsObject g.0) grants → (excluded included : Marks) (d : Pair)
+        (n : Naming) → Says (let r = confirm p grants excluded included d n in r.outs)
+    confirm_says grants objects excluded included d n =
         by (is_over p n || not (has_all grants n)) (is_on n.confirmed (top_of p) || is_prepared (top_of p) d)
       where
         answered : (states : List ObjectState) (t : Did Naming) (a : Prep) → Says t.outs →
             Says (let r = prepared_by (top_of p) states t a in r.outs)
         answered states t Ready so = both t.outs
             (Do Look ∷ Do (Prepare role.Names (top_of p) states) ∷ Say (body.Prepared 1 (top_of p) role.Names) ∷ []) so
-            (tt, (tt, ((tt, top), tt)))
+            (tt, (top, ((tt, top), tt)))
         answered states t (InDoubt u holder) so = both t.outs (Do Look ∷ []) so (tt, tt)
         answered states t (Already u) so = both t.outs (Do Look ∷ []) so (tt, tt)
         answered states t (Old u v) so = both t.outs (Do Look ∷ []) so (tt, tt)
+
+        of_grants : (gs : Grants) → AllByRecursion (λ (g : ℕ × ℕ). IsObject g.0) gs → AllByRecursion IsObject (map (λ (g : ℕ × ℕ). g.0) gs)
+        of_grants [] all = tt
+        of_grants (g ∷ gs) all = (all.0, of_grants gs all.1)
+
+        wants : AllByRecursion IsObject (wanted (top_of p) grants excluded d)
+        wants = all_filter IsObject (wants_lock (top_of p) excluded d) (map (λ (g : ℕ × ℕ). g.0) grants) (of_grants grants objects)
 
         entries : (states : List ObjectState) (t : Did Naming) → Says t.outs → Says (let r = confirm_entries (top_of p) states d t in r.outs)
         entries [] t so = so
@@ -277,7 +316,7 @@ module _ (U : Uid → Type 0) where
         new : (q : Option ConfirmedReply) → Says (let r = confirm_new p grants excluded included d n q in r.outs)
         new (Some r) = tt
         new None = entries (entries_after (top_of p) grants excluded included d)
-            (lock_all (wanted (top_of p) grants excluded d) p n) (locks_say (wanted (top_of p) grants excluded d) n)
+            (lock_all (wanted (top_of p) grants excluded d) p n) (locks_say (wanted (top_of p) grants excluded d) wants n)
 
         by : (a b : Bool) → Says (let r = cond {A = Served Naming ConfirmedReply} a (void n)
             (cond {A = Served Naming ConfirmedReply} b (reply (confirms (top_of p) n) confirmed.Yes)
@@ -287,25 +326,29 @@ module _ (U : Uid → Type 0) where
         by false false = new (checked p grants excluded included d n)
 
   -- what is prepared ends
-  entries_say : (u : Uid) (e : End) → Says (end_entries u e)
-  entries_say u ending.Commit = (tt, ((tt, tt), tt))
-  entries_say u ending.Abort = (tt, ((tt, tt), tt))
+  entries_say : (u : Uid) (e : End) → U u → Says (end_entries u e)
+  entries_say u ending.Commit its = (tt, ((tt, its), tt))
+  entries_say u ending.Abort its = (tt, ((tt, its), tt))
 
-  pub told_says : (u : Uid) (e : End) (d : Pair) (n : Naming) → Says (let t = naming.told u e d n in t.outs)
-  told_says u e d n = both (own_entries u e d) _ (own (is_prepared u d)) (by (is_on n.told u))
+  pub told_says : (u : Uid) (e : End) (d : Pair) (n : Naming) → KeysSo U d → Says (let t = naming.told u e d n in t.outs)
+  told_says u e d n keys = both (own_entries u e d) _ (own (is_prepared u d) refl) (by (is_on n.told u))
     where
-      own : (b : Bool) → Says (cond b (end_entries u e) [])
-      own true = entries_say u e
-      own false = tt
+      own : (b : Bool) → is_prepared u d ≡ b → Says (cond b (end_entries u e) [])
+      own true is = entries_say u e (key_of U u d.pend keys is)
+      own false is = tt
 
-      each : (us : List Uid) → Says (flat_map (λ act. end_entries act ending.Abort) us)
-      each [] = tt
-      each (v ∷ vs) = both (end_entries v ending.Abort) (flat_map (λ act. end_entries act ending.Abort) vs) (entries_say v ending.Abort)
-          (each vs)
+      each : (us : List Uid) → AllByRecursion U us → Says (flat_map (λ act. end_entries act ending.Abort) us)
+      each [] all = tt
+      each (v ∷ vs) all = both (end_entries v ending.Abort) (flat_map (λ act. end_entries act ending.Abort) vs)
+          (entries_say v ending.Abort all.0) (each vs all.1)
+
+      lost : AllByRecursion U (orphans u d n)
+      lost = all_filter U (λ act. not (uid_eq act u) && loses_row u act n) (map (λ (q : Uid × List ObjectState). q.0) d.pend)
+          (all_keys U d.pend keys)
 
       orphans_say : (f : End) → Says (end_orphans u f d n)
       orphans_say ending.Commit = tt
-      orphans_say ending.Abort = each (orphans u d n)
+      orphans_say ending.Abort = each (orphans u d n) lost
 
       line : (f : End) (b : Bool) → Says (cond b (Say (body.Told 1 u f part.Naming) ∷ []) [])
       line f true = ((tt, tt), tt)
@@ -324,11 +367,13 @@ module _ (U : Uid → Type 0) where
 
   -- what is asked of an object is of one
   abbrev pub AsksObject : Ask → Type 0
+  AsksObject (ask.Bind x include avoid) = IsObject x
   AsksObject (ask.Record x b i g) = IsObject x
   AsksObject (ask.Invoke x b i ends o) = IsObject x
+  AsksObject (ask.Confirm grants excluded included) = AllByRecursion (λ (g : ℕ × ℕ). IsObject g.0) grants
   AsksObject a = ⊤
 
-  module _ (n : ℕ) (d : Disk) (t : Parts) (from : ℕ) where
+  module _ (n : ℕ) (d : Disk) (t : Parts) (from : ℕ) (pends : PendsSo U d) where
     answer_says : (h : Head) (v : Parts) (outs : List Effect) (r : Option Reply) → Says outs → SaysAll (sends_answer from h v outs r)
     answer_says h v outs None so = tt
     answer_says h v outs (Some r) so = both outs (Send from (response (asked_by h) r) ∷ []) so (tt, tt)
@@ -349,7 +394,7 @@ module _ (U : Uid → Type 0) where
     prepare_says h states asks = by (is_prepared (actor h.path) d.store)
       where
         new : (a : Prep) → SaysAll (prepare_by n states from h t a)
-        new Ready = (tt, (tt, ((tt, asks), (tt, tt))))
+        new Ready = (tt, (asks, ((tt, asks), (tt, tt))))
         new (Already u) = (tt, tt)
         new (Old u v) = (tt, (tt, tt))
         new (InDoubt u holder) = (tt, (tt, tt))
@@ -361,7 +406,7 @@ module _ (U : Uid → Type 0) where
 
     pub serve_says : (h : Head) (a : Ask) → U (actor h.path) → U (top_of h.path) → AsksObject a → SaysAll (serve n d t from h a)
     serve_says h (ask.Bind x include avoid) asks top fit = with_it _ t.naming (λ o. let r = naming.bind h.path x include avoid d.names o in
-        answer_says h (with_naming t r.part) r.outs (option_map Reply.Bound r.reply) (bind_says h.path top x include avoid d.names o))
+        answer_says h (with_naming t r.part) r.outs (option_map Reply.Bound r.reply) (bind_says h.path top x fit include avoid d.names o))
     serve_says h (ask.Load x) asks top fit = load_says h x (holder_of (object x) d.store)
     serve_says h (ask.Activate b st) asks top fit = let r = server.activate n h.path b st t.server in
         answer_says h (with_server t r.part) r.outs (option_map Reply.Activated r.reply) (activate_says n h.path b st t.server)
@@ -375,23 +420,23 @@ module _ (U : Uid → Type 0) where
     serve_says h (ask.Confirm grants excluded included) asks top fit = with_it _ t.naming (λ o.
         let r = confirm h.path grants excluded included d.names o in
         answer_says h (with_naming t r.part) r.outs (option_map Reply.Confirmed r.reply)
-        (confirm_says h.path top grants excluded included d.names o))
+        (confirm_says h.path top grants fit excluded included d.names o))
 
     handle_told_says : (ack : Bool) (es : List (Uid × End)) (u : Uid) (e : End) → SaysAll (handle_told n d t from ack es u e)
     handle_told_says ack es u e =
         both (store_told n u e d.store ++ (naming_told u e d.names t.naming).outs ++ (server.told n es t.server).outs) (ack_told from u ack)
         (both (store_told n u e d.store ++ (naming_told u e d.names t.naming).outs) (server.told n es t.server).outs
-        (both (store_told n u e d.store) (naming_told u e d.names t.naming).outs (store (is_prepared u d.store) e) (names t.naming))
+        (both (store_told n u e d.store) (naming_told u e d.names t.naming).outs (store (is_prepared u d.store) e refl) (names t.naming))
         (ends_say n es t.server)) (acks ack)
       where
-        store : (b : Bool) (f : End) → Says (cond b (end_states n u f) [])
-        store false f = tt
-        store true ending.Commit = (tt, ((tt, tt), tt))
-        store true ending.Abort = (tt, ((tt, tt), tt))
+        store : (b : Bool) (f : End) → is_prepared u d.store ≡ b → Says (cond b (end_states n u f) [])
+        store false f is = tt
+        store true ending.Commit is = (tt, ((tt, key_of U u (let q = d.store in q.pend) pends.0 is), tt))
+        store true ending.Abort is = (tt, ((tt, key_of U u (let q = d.store in q.pend) pends.0 is), tt))
 
         names : (o : Option Naming) → Says (naming_told u e d.names o).outs
         names None = tt
-        names (Some o) = told_says u e d.names o
+        names (Some o) = told_says u e d.names o pends.1
 
         acks : (b : Bool) → Says (ack_told from u b)
         acks true = (tt, tt)
@@ -404,7 +449,7 @@ module _ (U : Uid → Type 0) where
     rest_says : (m : Message) → is_for_parts m ≡ true → SaysAll (handle_other n d t from m)
     rest_says (message.Told m) mine = ends_handled m.ack m.ends (last_end m.ends)
     rest_says (message.Hello m) mine =
-        all_map (SaidIn (SaysSo U)) query_about (filter (is_earlier m.node m.inc) (holders d t)) (λ u. tt)
+        all_map (EffectSo U) query_about (filter (is_earlier m.node m.inc) (holders d t)) (λ u. tt)
     rest_says (message.Acked m) mine = absurd (cc mine)
     rest_says (message.Query m) mine = absurd (cc mine)
     rest_says m mine = tt

@@ -1,4 +1,4 @@
--- In every run each entry has each of its stores once, and so there are at most 16 of them.
+-- In every run each entry is of an object, and has each of its stores once, so that there are at most 16 of them.
 use Rattle.arj_law_parts.proofs.Words
 use Words.{◌≡◌, ◌≤◌, ◌+◌, ◌++◌, ◌==◌, ◌||◌, ◌&&◌, ◌∙◌, nat_le, not, ℕ, Bool, true, false, cond, List, [], ◌∷◌, filter, map, length, Option}
 use Words.{Some, None}
@@ -50,13 +50,14 @@ use Rattle.arj_journal.specs.declared.limits.TheConstants.{STORES}
 use Rattle.arj_law_cause.proofs.spelled.Commits.{node_number}
 use Rattle.arj_law_cause.proofs.spelled.Onces.{Once, distinct_once, few_once, once_with, once_without}
 use Rattle.arj_law_cause.proofs.spelled.Saves.{F, keep}
+use Rattle.arj_msg.specs.InForm.{IsObject}
 use Rattle.arj_protocol.proofs.CoordSays.{acked_own, acts_own, again_own, heard_own, query_own, tolds_again_own}
 use Rattle.arj_protocol.specs.Says.{is_coord_effect, is_intent_work}
 use Rattle.arj_text.specs.Fields.{NodesInForm}
 
--- an entry has each store once
+-- an entry has each store once, and is of an object
 abbrev pub Apart : Uid → ObjectState → Type 0
-Apart u st = Once (let e = state_entry st in e.stores)
+Apart u st = Once (let e = state_entry st in e.stores) × IsObject u.num
 
 -- so it is of each entry on the disk
 abbrev pub Names : Disk → Type 0
@@ -174,12 +175,14 @@ entries_apart top (g ∷ gs) excluded included d so = by (held_at (entry g.0) d)
     Later = AllByRecursion (Own Apart) (entries_after top gs excluded included d)
 
     apart : (s : ObjectState) → Apart (entry g.0) s → Own Apart (entry_state g.0 top s (stores_after g.0 excluded included (state_entry s)))
-    apart s once =
-        let e = state_entry s in
-        subst (λ (f : Entry). Once f.stores)
-        (sym (entry_back (record { servers = (state_entry s).servers; stores = stores_after g.0 excluded included (state_entry s) })))
-        (once_with (marked g.0 included) (without_stores (marked g.0 excluded) e.stores)
-        (once_without (marked g.0 excluded) e.stores once))
+    apart s its =
+        let e = state_entry s in (
+          subst (λ (f : Entry). Once f.stores)
+              (sym (entry_back (record { servers = (state_entry s).servers; stores = stores_after g.0 excluded included (state_entry s) })))
+              (once_with (marked g.0 included) (without_stores (marked g.0 excluded) e.stores)
+              (once_without (marked g.0 excluded) e.stores its.0)),
+          its.1,
+        )
 
     made : (s : ObjectState) (b : Bool) → held_at (entry g.0) d ≡ Some s → Later → AllByRecursion (Own Apart) (cons_option (cond b None
         (Some (entry_state g.0 top s (stores_after g.0 excluded included (state_entry s))))) (entries_after top gs excluded included d))
@@ -385,8 +388,11 @@ module _ (hd : Header) (form : HeaderInForm hd) (st : Start) where
       AllByRecursion (Own Apart) (map (λ (o : ObjectLine). entry_by hd.format (let m = st.marks in m.entries o.x) o) os)
   lines_once [] all = tt
   lines_once (o ∷ os) all = (
-    subst (λ (f : Entry). Once f.stores) (sym (entry_back (record { servers = o.servers; stores = o.stores })))
-        (distinct_once o.stores (once o.stores (let f = all.0 in f.stores))),
+    (
+      subst (λ (f : Entry). Once f.stores) (sym (entry_back (record { servers = o.servers; stores = o.stores })))
+          (distinct_once o.stores (once o.stores (let f = all.0 in f.stores))),
+      (let f = all.0 in f.number),
+    ),
     lines_once os all.1,
   )
     where
@@ -457,7 +463,7 @@ few_stores hd form d names of x = by (held_at (entry x) d.names) refl
         let p = d.names in
         let known = all_at_uid (StateOf (IsNode hd)) (entry x) s p.held (pairs p.held of.held) is in
         let e = known.1 in
-        few_once 16 (let f = state_entry s in f.stores) once.0 (numbers (let f = state_entry s in f.stores) e.stores)
+        few_once 16 (let f = state_entry s in f.stores) (once.0).0 (numbers (let f = state_entry s in f.stores) e.stores)
       where
         pairs : (es : List (Uid × ObjectState)) →
             AllByRecursion (λ (e : Uid × ObjectState). (e.0 ≡ entry (let u = e.0 in u.num)) × StateOf (IsNode hd) e.1) es →

@@ -9,7 +9,6 @@ use Rattle.arj_journal.specs.declared.body.Cause.TheVariants as cause
 use Rattle.arj_journal.specs.declared.body.Line.{Line}
 use Rattle.arj_journal.specs.declared.header.Header.{Header}
 use Rattle.arj_law_promise.specs.rooms.Actions.{HasIncs}
-use Rattle.arj_model.specs.Table.{is_entry}
 use Rattle.arj_promise.specs.Runs.{IsInForm, Run, journal_by}
 
 -- Kinds of lines of which it isn't shown that each is in form. They say a Uid, a binding, an answer, a version or bytes.
@@ -20,11 +19,9 @@ is_open (body.Changed l n d) = true
 is_open (body.Aborted l (cause.Conflict holder mode n)) = true
 is_open (body.Aborted l (cause.Changed n d)) = true
 is_open (body.Aborted l (cause.Old n x version)) = true
-is_open (body.Granted n u o mode) = is_entry o
 is_open (body.Bound x b n) = true
 is_open (body.Active n x b) = true
 is_open (body.Told n u ending.Abort part) = true
-is_open (body.Done n u role ending.Abort) = true
 is_open (body.Entry x v servers stores) = true
 is_open (body.Copy n x v u payload) = true
 is_open b = false
