@@ -50,15 +50,17 @@ abbrev pub is_load : At → Bool
 is_load (AtLoad k s rest) = true
 is_load _ = false
 
--- A change is what naming's answer to a Bind, or to a Record, showed, or a server's answer to an Activate, or to an Invoke.
-pub data IsChange (at : At) (r : Reply) (n : ℕ) : Type 0 where
+-- A change is what naming's answer to a Bind, or to a Record, showed, or a server's answer to an Activate, under the binding that the root
+-- keeps, or to an Invoke.
+pub data IsChange (kept : Option Known) (at : At) (r : Reply) (n : ℕ) : Type 0 where
   OnLive : (avoid b : Binding) (server i g : ℕ) (stores : List ℕ) → at ≡ AtBind avoid → r ≡ Reply.Bound (bound.Live b server i g stores) →
-      IsChange at r n
+      IsChange kept at r n
   OnMake : (avoid b : Binding) (server g : ℕ) (stores : List ℕ) → at ≡ AtBind avoid → r ≡ Reply.Bound (bound.Make b server g stores) →
-      IsChange at r n
-  OnActivate : (k : Known) (st : ObjectState) (i : ℕ) → at ≡ AtActivate k st → r ≡ Reply.Activated i → IsChange at r n
-  OnNote : (k : Known) (i : ℕ) (q : RecordedReply) → at ≡ AtNote k i → r ≡ Reply.Noted q → IsChange at r n
-  OnInvoke : (k : Known) (i : ℕ) (q : InvokedReply) → at ≡ AtInvoke k i → r ≡ Reply.Invoked q → n ≡ k.server → IsChange at r n
+      IsChange kept at r n
+  OnActivate : (k : Known) (st : ObjectState) (i : ℕ) (old : Known) → at ≡ AtActivate k st → r ≡ Reply.Activated i → kept ≡ Some old →
+      binding_eq old.binding k.binding ≡ true → n ≡ old.server → IsChange kept at r n
+  OnNote : (k : Known) (i : ℕ) (q : RecordedReply) → at ≡ AtNote k i → r ≡ Reply.Noted q → IsChange kept at r n
+  OnInvoke : (k : Known) (i : ℕ) (q : InvokedReply) → at ≡ AtInvoke k i → r ≡ Reply.Invoked q → n ≡ k.server → IsChange kept at r n
 
 -- an answer that goes on to load names no store
 abbrev pub HasNone : BoundReply → Type 0
@@ -67,17 +69,17 @@ HasNone (bound.Write g stores) = stores ≡ []
 HasNone q = ⊥
 
 -- the answer ends the step so
-abbrev pub EndsBy : Goal → At → Reply → CallEnd → Type 0
-EndsBy goal at r (Answered a) = (k : Known) × (i : ℕ) × (at ≡ AtInvoke k i) × (r ≡ Reply.Invoked (invoked.Answered a))
-EndsBy goal at r (Included st) = (n : ℕ) × (goal ≡ Include n) × (is_load at ≡ true)
-EndsBy goal at r (Conflict u m n) = IsConflict at r u m n
-EndsBy goal at r (Changed n w) = IsChange at r n
-EndsBy goal at r (Lost n b) = (q : BoundReply) × (r ≡ Reply.Bound q) × HasNone q
+abbrev pub EndsBy : Option Known → Goal → At → Reply → CallEnd → Type 0
+EndsBy kept goal at r (Answered a) = (k : Known) × (i : ℕ) × (at ≡ AtInvoke k i) × (r ≡ Reply.Invoked (invoked.Answered a))
+EndsBy kept goal at r (Included st) = (n : ℕ) × (goal ≡ Include n) × (is_load at ≡ true)
+EndsBy kept goal at r (Conflict u m n) = IsConflict at r u m n
+EndsBy kept goal at r (Changed n w) = IsChange kept at r n
+EndsBy kept goal at r (Lost n b) = (q : BoundReply) × (r ≡ Reply.Bound q) × HasNone q
 
 -- where it ends it
-abbrev StepEnds : Goal → At → Reply → CallStep → Type 0
-StepEnds goal at r (On next) = ⊤
-StepEnds goal at r (Ended e) = EndsBy goal at r e
+abbrev StepEnds : Option Known → Goal → At → Reply → CallStep → Type 0
+StepEnds kept goal at r (On next) = ⊤
+StepEnds kept goal at r (Ended e) = EndsBy kept goal at r e
 
 -- the call goes on, or has changed
 abbrev IsPlain : CallStep → Type 0
@@ -85,13 +87,14 @@ IsPlain (On next) = ⊤
 IsPlain (Ended (Changed n w)) = ⊤
 IsPlain (Ended e) = ⊥
 
-plain_ends : (goal : Goal) (at : At) (r : Reply) (s : CallStep) → ((n : ℕ) → IsChange at r n) → IsPlain s → StepEnds goal at r s
-plain_ends goal at r (On next) change plain = tt
-plain_ends goal at r (Ended (Changed n w)) change plain = change n
-plain_ends goal at r (Ended (Answered a)) change plain = absurd plain
-plain_ends goal at r (Ended (Included st)) change plain = absurd plain
-plain_ends goal at r (Ended (Conflict u m n)) change plain = absurd plain
-plain_ends goal at r (Ended (Lost n b)) change plain = absurd plain
+plain_ends : (kept : Option Known) (goal : Goal) (at : At) (r : Reply) (s : CallStep) → ((n : ℕ) → IsChange kept at r n) → IsPlain s →
+    StepEnds kept goal at r s
+plain_ends kept goal at r (On next) change plain = tt
+plain_ends kept goal at r (Ended (Changed n w)) change plain = change n
+plain_ends kept goal at r (Ended (Answered a)) change plain = absurd plain
+plain_ends kept goal at r (Ended (Included st)) change plain = absurd plain
+plain_ends kept goal at r (Ended (Conflict u m n)) change plain = absurd plain
+plain_ends kept goal at r (Ended (Lost n b)) change plain = absurd plain
 
 inc_plain : (i : ℕ) (kept : Known) (at : At) (o : Option ℕ) → IsPlain (with_inc i kept at o).step
 inc_plain i kept at None = tt
@@ -119,23 +122,35 @@ bound_plain free k at (Some old) = by (binding_eq old.binding k.binding)
     by true = same k.inc
     by false = other (free && binding_less old.binding k.binding)
 
-activated_plain : (k : Known) (i : ℕ) (o : Option Known) → IsPlain (activated_by k i o).step
-activated_plain k i None = tt
-activated_plain k i (Some old) = by (binding_eq old.binding k.binding)
+activated_ends : (g : Goal) (k : Known) (st : ObjectState) (i : ℕ) (kept : Option Known) →
+    StepEnds kept g (AtActivate k st) (Reply.Activated i) (activated_by k i kept).step
+activated_ends g k st i None = tt
+activated_ends g k st i (Some old) = by (binding_eq old.binding k.binding) refl
   where
-    by : (b : Bool) → IsPlain (cond {A = Moved} b (with_inc i old (AtNote k i) old.inc) (moves (Some old) (AtNote k i))).step
-    by true = inc_plain i old (AtNote k i) old.inc
-    by false = tt
+    other : (b : Bool) (first : ℕ) → binding_eq old.binding k.binding ≡ true → StepEnds (Some old) g (AtActivate k st) (Reply.Activated i)
+        (cond {A = Moved} b (moves (Some old) (AtNote k i)) (finds (Some old) (Changed old.server (two_incs first i)))).step
+    other true first same = tt
+    other false first same = OnActivate k st i old refl refl refl same refl
 
-ends_by : (free : Bool) (kept : Option Known) (g : Goal) (at : At) (r : Reply) → StepEnds g at r (answered free kept g at r).step
+    named : (o : Option ℕ) → binding_eq old.binding k.binding ≡ true →
+        StepEnds (Some old) g (AtActivate k st) (Reply.Activated i) (with_inc i old (AtNote k i) o).step
+    named None same = tt
+    named (Some first) same = other (first == i) first same
+
+    by : (b : Bool) → binding_eq old.binding k.binding ≡ b → StepEnds (Some old) g (AtActivate k st) (Reply.Activated i)
+        (cond {A = Moved} b (with_inc i old (AtNote k i) old.inc) (moves (Some old) (AtNote k i))).step
+    by true same = named old.inc same
+    by false same = tt
+
+ends_by : (free : Bool) (kept : Option Known) (g : Goal) (at : At) (r : Reply) → StepEnds kept g at r (answered free kept g at r).step
 ends_by free kept g (AtBind avoid) (Reply.Bound (bound.Live b server i given stores)) =
-    plain_ends g (AtBind avoid) (Reply.Bound (bound.Live b server i given stores))
+    plain_ends kept g (AtBind avoid) (Reply.Bound (bound.Live b server i given stores))
     (answered free kept g (AtBind avoid) (Reply.Bound (bound.Live b server i given stores))).step
     (λ n. OnLive avoid b server i given stores refl refl)
     (bound_plain free (calls.live_known b server i given stores) (AtInvoke (calls.live_known b server i given stores) i) kept)
 ends_by free kept g (AtBind avoid) (Reply.Bound (bound.Make b server given [])) = (bound.Make b server given [], refl, refl)
 ends_by free kept g (AtBind avoid) (Reply.Bound (bound.Make b server given (s ∷ stores))) =
-    plain_ends g (AtBind avoid) (Reply.Bound (bound.Make b server given (s ∷ stores)))
+    plain_ends kept g (AtBind avoid) (Reply.Bound (bound.Make b server given (s ∷ stores)))
     (bound_by free (made_known b server given (s ∷ stores)) (AtLoad (made_known b server given (s ∷ stores)) s stores) kept).step
     (λ n. OnMake avoid b server given (s ∷ stores) refl refl)
     (bound_plain free (made_known b server given (s ∷ stores)) (AtLoad (made_known b server given (s ∷ stores)) s stores) kept)
@@ -144,13 +159,11 @@ ends_by free kept g (AtBind avoid) (Reply.Bound (bound.Write given (s ∷ stores
 ends_by free kept g (AtBind avoid) (Reply.Bound (bound.Conflict u m)) = ByNaming avoid refl refl refl
 ends_by free kept g (AtLoad k s rest) (Reply.Loaded (loaded.State st)) = by g
   where
-    by : (g : Goal) → StepEnds g (AtLoad k s rest) (Reply.Loaded (loaded.State st)) (calls.loaded_state kept k st g).step
+    by : (g : Goal) → StepEnds kept g (AtLoad k s rest) (Reply.Loaded (loaded.State st)) (calls.loaded_state kept k st g).step
     by (Run o) = tt
     by (Include n) = (n, refl, refl)
 ends_by free kept g (AtLoad k s rest) (Reply.Loaded (loaded.InDoubt u)) = ByStore k s rest refl refl refl refl
-ends_by free kept g (AtActivate k st) (Reply.Activated i) =
-    plain_ends g (AtActivate k st) (Reply.Activated i) (activated_by k i kept).step (λ n. OnActivate k st i refl refl)
-    (activated_plain k i kept)
+ends_by free kept g (AtActivate k st) (Reply.Activated i) = activated_ends g k st i kept
 ends_by free kept g (AtNote k i) (Reply.Noted recorded.Yes) = tt
 ends_by free kept g (AtNote k i) (Reply.Noted (recorded.Changed w)) = OnNote k i (recorded.Changed w) refl refl
 ends_by free kept g (AtInvoke k i) (Reply.Invoked (invoked.Answered a)) = (k, i, refl, refl)
@@ -168,15 +181,15 @@ pub data Says (Why : Uid → Doing → Steps → CallEnd → List Effect → Typ
       outs ≡ front ++ Say (end_line s.x s.goal g d.label) ∷ [] → Why u d s g front → Says Why c outs
 
 -- an answer was taken for which it waits
-pub record Takes (from : ℕ) (a : Asked) (r : Reply) (u : Uid) (s : Steps) (g : CallEnd) (front : List Effect) : Type 0 where
+pub record Takes (c : Coord) (from : ℕ) (a : Asked) (r : Reply) (u : Uid) (s : Steps) (g : CallEnd) (front : List Effect) : Type 0 where
   pub alone : front ≡ []
   pub act : a.act ≡ u
   pub waits : waits_for_call from a r s ≡ true
-  pub ends : EndsBy s.goal s.at r g
+  pub ends : EndsBy (kept_at s c) s.goal s.at r g
 
 -- it took an answer
-abbrev pub Heard : ℕ → Message → Uid → Doing → Steps → CallEnd → List Effect → Type 0
-Heard from m u w s g front = (a : Asked) × (r : Reply) × (answers m ≡ Some (a, r)) × Takes from a r u s g front
+abbrev pub Heard : Coord → ℕ → Message → Uid → Doing → Steps → CallEnd → List Effect → Type 0
+Heard c from m u w s g front = (a : Asked) × (r : Reply) × (answers m ≡ Some (a, r)) × Takes c from a r u s g front
 
 -- it was given up, as the line before says
 pub record GivesUp (v u : Uid) (d : Doing) (s : Steps) (g : CallEnd) (front : List Effect) : Type 0 where
@@ -198,17 +211,17 @@ module _ (c : Coord) (busy : (u : Uid) (d : Doing) (s : Steps) → doing_of u c 
       ap (say_for (end_line s.x s.goal g)) (ap (λ v. doing_of v e) (busy u d s found is) ∙ there)
 
   pub heard_says : (from : ℕ) (a : Asked) (r : Reply) (intents : List (Uid × Intent)) →
-      Says (λ u d s g front. Takes from a r u s g front) c (heard from a r intents c).outs
+      Says (λ u d s g front. Takes c from a r u s g front) c (heard from a r intents c).outs
   heard_says from a r intents = by (doing_of a.act c) refl
     where
       Out : List Effect → Type 0
-      Out outs = Says (λ u d s g front. Takes from a r u s g front) c outs
+      Out outs = Says (λ u d s g front. Takes c from a r u s g front) c outs
 
       now : (d : Doing) → doing_of a.act c ≡ Some d → (n : Now) → d.now ≡ n → Out (heard_now from a r intents c n).outs
       now d found Idle is = Nothing tt
       now d found (Calling s) is = one (waits_for_call from a r s) refl
         where
-          stepped : waits_for_call from a r s ≡ true → (n : CallStep) → StepEnds s.goal s.at r n →
+          stepped : waits_for_call from a r s ≡ true → (n : CallStep) → StepEnds (kept_at s c) s.goal s.at r n →
               Out (step_call s n (on_root (root_of s.path)
               (root_moved s r (answered (is_free (root_of s.path) (actor s.path) s.x c) (kept_at s c) s.goal s.at r)) c)).outs
           stepped waits (On next) ends = Nothing (tt, tt)
@@ -398,7 +411,7 @@ module _ (k : ℕ) (d : Disk) (t : Parts) (from : ℕ) where
   -- the coordinator answers a call where it takes the answer for which that waits
   abbrev pub Said : Message → Handled → Type 0
   Said m (Void outs) = ⊤
-  Said m (Took v outs) = Says (Heard from m) t.coord outs
+  Said m (Took v outs) = Says (Heard t.coord from m) t.coord outs
 
   -- its calls go on
   abbrev pub TurnsTo : Handled → Type 0
@@ -415,7 +428,7 @@ module _ (k : ℕ) (d : Disk) (t : Parts) (from : ℕ) where
   message_says m busy turns = by (asks m) refl turns
     where
       took : (a : Asked) (r : Reply) → answers m ≡ Some (a, r) → (outs : List Effect) →
-          Says (λ u w s g front. Takes from a r u s g front) t.coord outs → Says (Heard from m) t.coord outs
+          Says (λ u w s g front. Takes t.coord from a r u s g front) t.coord outs → Says (Heard t.coord from m) t.coord outs
       took a r is outs (Nothing dumb) = Nothing dumb
       took a r is outs (Ending u w s g front found calls lined are why) = Ending u w s g front found calls lined are (a, r, is, why)
 

@@ -1,7 +1,7 @@
 -- A conflict, and an answer of an operation, has its cause by the journal where the line is written.
 use Rattle.arj_law_parts.proofs.Words
 use Words.{◌≡◌, ◌∙◌, ◌++◌, ◌&&◌, ◌||◌, not, ℕ, Bool, true, false, List, [], ◌∷◌, length, take, Option, Some, None, refl, sym}
-use Words.{BoundReply, ◌⊎◌, ◌+◌, bytes_eq-Decides, ap, subst, arith, eq-eqb, and_parts}
+use Words.{BoundReply, ObjectState, binding_eq, ◌⊎◌, ◌+◌, bytes_eq-Decides, ap, subst, arith, eq-eqb, and_parts}
 use Words.{list_any, Binding, In, End, Ask, Asked, Event, Header, Line}
 use Words.{Mode, Op, Row, Uid, Value, class_code_of, entry, object}
 use Rattle.arj_protocol.specs.Words.{FrameKind}
@@ -42,7 +42,7 @@ use Rattle.arj_law_cause.proofs.rows.Loading.{IsLocked}
 use Rattle.arj_law_cause.proofs.rows.Paths.{one_top, top_is}
 use Rattle.arj_law_cause.proofs.rows.Spans.{answered_at, in_range, or_first, or_last, rows_so, sent_to, shown_from}
 use Rattle.arj_law_cause.proofs.rows.Taking.{AskedPaths, IsCaller, IsTaken, bind_is}
-use Rattle.arj_law_cause.specs.rows.Lines.{came_from_store, was_activated, was_called}
+use Rattle.arj_law_cause.specs.rows.Lines.{came_from_store, was_called}
 use Rattle.arj_law_cause.specs.rows.Says.{entry_modes, has_upper, says_of}
 
 -- ---- requests
@@ -306,9 +306,8 @@ module _ (hd : Header) (k : ℕ) (M : Moment) (h : Here) (header : h.header ≡ 
         (subst (λ z. (from ≡ k) ⊎ BeginsWith from k z T.after) kind T.framed) among_them refl)
 
     -- a call that was told of the node
-    called_so : (n : ℕ) (o : Op) → s.goal ≡ Run o → (was_told h n c.act q || was_activated h c.act q) ≡ true →
-        was_called h (name w.label) n ≡ true
-    called_so n o goal is = row_so (λ b z. is_call z.event && (was_told h n b z || was_activated h b z))
+    called_so : (n : ℕ) (o : Op) → s.goal ≡ Run o → was_told h n c.act q ≡ true → was_called h (name w.label) n ≡ true
+    called_so n o goal is = row_so (λ b z. is_call z.event && was_told h n b z)
         (λ j. (ap is_call (its_event ∙ ap (asks_goal (let g = c.asked.goal in g.0) s.x) goal)) j && is j)
 
     -- a server of this number sent it, or naming did
@@ -319,24 +318,22 @@ module _ (hd : Header) (k : ℕ) (M : Moment) (h : Here) (header : h.header ≡ 
     by_naming = was_sent h (let z = q in z.at) 1 its_home (frame.Bound ∷ frame.Recorded ∷ [])
 
     named_told : (n : ℕ) (what : FrameKind) → from ≡ 1 → frame_kind (response a r) ≡ what →
-        list_any (same_frame what) (frame.Bound ∷ frame.Recorded ∷ []) ≡ true → (was_told h n c.act q || was_activated h c.act q) ≡ true
-    named_told n what one kind among_them = or_first (was_told h n c.act q) (was_activated h c.act q)
-        (⊎_elim {C = was_told h n c.act q ≡ true}
+        list_any (same_frame what) (frame.Bound ∷ frame.Recorded ∷ []) ≡ true → was_told h n c.act q ≡ true
+    named_told n what one kind among_them = ⊎_elim {C = was_told h n c.act q ≡ true}
         (λ same. or_first (its_home == 1) ((its_home == n) || (by_server n || by_naming)) (eq-eqb its_home 1 (same ∙ one)))
         (λ sent. or_last (its_home == 1) ((its_home == n) || (by_server n || by_naming))
         (or_last (its_home == n) (by_server n || by_naming) (or_last (by_server n) by_naming
         (subst (λ m. was_sent h (let z = q in z.at) m its_home (frame.Bound ∷ frame.Recorded ∷ []) ≡ true) one sent))))
-        (sent_so what (frame.Bound ∷ frame.Recorded ∷ []) kind among_them))
+        (sent_so what (frame.Bound ∷ frame.Recorded ∷ []) kind among_them)
 
-    server_told : (n : ℕ) → from ≡ n → frame_kind (response a r) ≡ frame.Invoked →
-        (was_told h n c.act q || was_activated h c.act q) ≡ true
-    server_told n one kind = or_first (was_told h n c.act q) (was_activated h c.act q)
-        (or_last (its_home == 1) ((its_home == n) || (by_server n || by_naming))
+    server_told : (n : ℕ) (what : FrameKind) → from ≡ n → frame_kind (response a r) ≡ what →
+        list_any (same_frame what) (frame.Activated ∷ frame.Invoked ∷ []) ≡ true → was_told h n c.act q ≡ true
+    server_told n what one kind among_them = or_last (its_home == 1) ((its_home == n) || (by_server n || by_naming))
         (⊎_elim {C = ((its_home == n) || (by_server n || by_naming)) ≡ true}
         (λ same. or_first (its_home == n) (by_server n || by_naming) (eq-eqb its_home n (same ∙ one)))
         (λ sent. or_last (its_home == n) (by_server n || by_naming) (or_first (by_server n) by_naming
         (subst (λ m. was_sent h (let z = q in z.at) m its_home (frame.Activated ∷ frame.Invoked ∷ []) ≡ true) one sent)))
-        (sent_so frame.Invoked (frame.Activated ∷ frame.Invoked ∷ []) kind refl)))
+        (sent_so what (frame.Activated ∷ frame.Invoked ∷ []) kind among_them))
 
     -- naming answers with a binding only to a call
     bound_told : (n : ℕ) (avoid : Binding) (z : BoundReply) → s.at ≡ AtBind avoid → r ≡ Reply.Bound z →
@@ -350,23 +347,26 @@ module _ (hd : Header) (k : ℕ) (M : Moment) (h : Here) (header : h.header ≡ 
             (bind_is T.ask s.x (is_include s.goal) avoid (T.same ∙ (λ j. ask_at s.x s.goal [] (at j))))
             (subst (λ y. says_of from (head_of s) T.ask y T.before) is T.so)))
 
-    -- what changed, in a call
-    pub changed_so : (n : ℕ) → IsChange s.at r n → was_called h (name w.label) n ≡ true
-    changed_so n (OnLive avoid b server i g stores at is) = bound_told n avoid (bound.Live b server i g stores) at is (λ so. so)
-    changed_so n (OnMake avoid b server g stores at is) = bound_told n avoid (bound.Make b server g stores) at is (λ so. so)
-    changed_so n (OnActivate x st i at is) =
+    -- what changed, in a call, where a binding has one server
+    pub changed_so : ((x old : Known) (st : ObjectState) → s.at ≡ AtActivate x st → kept ≡ Some old →
+        binding_eq old.binding x.binding ≡ true → old.server ≡ x.server) → (n : ℕ) → IsChange kept s.at r n →
+        was_called h (name w.label) n ≡ true
+    changed_so one n (OnLive avoid b server i g stores at is) =
+        bound_told n avoid (bound.Live b server i g stores) at is (λ so. so)
+    changed_so one n (OnMake avoid b server g stores at is) = bound_told n avoid (bound.Make b server g stores) at is (λ so. so)
+    changed_so one n (OnActivate x st i old at is keeps same its) =
         let run = only_run s.goal kept s.at (AtActivate x st) stands at (λ m off. off) in
-        called_so n run.0 run.1 (or_last (was_told h n c.act q) (was_activated h c.act q)
-        (any_in (λ m. answered h (let z = q in z.at) its_home m (frame.Activated ∷ []) (λ before. true)) from (nodes_of h.header) among
-        (found_at frame.Activated (ap (λ z. frame_kind (response a z)) is) refl (λ before. true) refl)))
-    changed_so n (OnNote x i z at is) =
+        called_so n run.0 run.1 (server_told n frame.Activated
+        (sym T.node ∙ ap (λ y. node_at y) at ∙ sym (one x old st at keeps same) ∙ sym its)
+        (ap (λ y. frame_kind (response a y)) is) refl)
+    changed_so one n (OnNote x i z at is) =
         let run = only_run s.goal kept s.at (AtNote x i) stands at (λ m off. off) in
         called_so n run.0 run.1 (named_told n frame.Recorded (sym T.node ∙ ap (λ y. node_at y) at)
         (ap (λ y. frame_kind (response a y)) is) refl)
-    changed_so n (OnInvoke x i z at is one) =
+    changed_so one n (OnInvoke x i z at is its) =
         let run = only_run s.goal kept s.at (AtInvoke x i) stands at (λ m off. off) in
-        called_so n run.0 run.1 (server_told n (sym (one ∙ ap (λ y. node_at y) (sym at) ∙ T.node))
-        (ap (λ y. frame_kind (response a y)) is))
+        called_so n run.0 run.1 (server_told n frame.Invoked (sym (its ∙ ap (λ y. node_at y) (sym at) ∙ T.node))
+        (ap (λ y. frame_kind (response a y)) is) refl)
 
     -- naming's conflict
     naming_so : (avoid : Binding) (v : Uid) (m : Mode) → s.at ≡ AtBind avoid → r ≡ Reply.Bound (bound.Conflict v m) →

@@ -4,8 +4,10 @@ use Words.{⊎_elim, ◌≡◌, ◌⊎◌, ◌≤◌, ◌∙◌, ◌+◌, ◌==�
 use Words.{refl, sym, ap, subst, inl, inr, arith, and_parts, eqb-true, eq-eqb, is_some, bytes_eq, In, in_find, in_to}
 use Words.{Ask, Asked, Header, Line, Message, Uid, name, Reply, actor, answers, frame_kind, response, reply_kind}
 use Words.{ask_kind, next_ask, next_node, waits_for_call, Steps, Calling, Doing, doing_of, Disk, Parts, Node, at_place, is_own, Contains}
-use Words.{Binding, End, Kind, is_serial, kept_of, root_at, root_of}
+use Words.{AtActivate, Binding, Coord, End, Keeping, Kind, ObjectState, binding_eq, binding_number, is_serial, kept_at, kept_of}
+use Words.{no_keeping, no_root, root_at, root_of}
 use Words.ask
+use Words.calls
 use Words.kind
 use Rattle.arj_law_serial.proofs.Terms
 use Terms.{Act, Action, AreAlike, AreBegun, AreDistinct, AreFormed, IsAsking, IsBusy, IsNumbered, act_in, action_of, acts, actor_is}
@@ -19,14 +21,19 @@ use Rattle.arj_law_lock_view.specs.asking.{Turns.calling}
 use Rattle.arj_law_lock_view.specs.facts.Requests.{IsAskedBy}
 use Rattle.arj_law_lock_view.specs.moments.Made.{AnswersAreMade, AnswersTo, BeginsWith}
 use Rattle.arj_law_parts.proofs.moves.{Flat.post, Happens.Wide}
+use Rattle.arj_law_parts.proofs.parts.LivesNamed.{all_at, keyed_at}
+use Rattle.arj_law_parts.specs.parts.Lives.{Homes, IsAtSo, IsKeptSo, IsKnownSo, IsNowSo, IsRootSo, KnowsServers, Reach}
 use Rattle.arj_law_parts.specs.moves.Moments.{Asking, Moment, up}
 use Rattle.arj_law_parts.specs.moves.Seen as seen
+use Rattle.arj_law_runs.proofs.calls.WholeRuns.{WhileFew, home_in, is_home}
 use Rattle.arj_law_runs.proofs.follow.Halts.{KnowsAll, is_alive}
 use Rattle.arj_law_runs.specs.addresses.Addresses.{AreAddressed, IsNode}
 use Rattle.arj_law_runs.specs.addresses.Binds.{StandsOn}
+use Rattle.arj_law_runs.specs.calls.{Bindings.HasFewBindings, Lived.PassesIn}
 use Rattle.arj_law_runs.specs.calls.Coords.{IsOfStep, bare, head_of}
 use Rattle.arj_law_runs.specs.journal.Book.{is_over as over_in}
 use Rattle.arj_law_runs.specs.journal.Knows.{IsWritten}
+use Rattle.arj_law_runs.specs.kept.Worlds.{IsGood}
 use Rattle.arj_model.specs.Actions.{halts, is_halted, path}
 use Rattle.arj_model.specs.Past.{label_of}
 use Rattle.arj_model.specs.Refusals.{has_ended, is_over_act}
@@ -57,6 +64,21 @@ pub record IsPathAt (lines : List Line) (q : Asking) : Type 0 where
 abbrev pub AskedPaths : Moment → Type 0
 AskedPaths M = (q : Asking) → In q M.past.askings → IsPathAt M.seen.lines q
 
+-- ---- what roots keep
+
+kept_so : (home : Homes) (reach : Reach) (s : Steps) (c : Coord) → KnowsServers home reach c → IsKeptSo home reach s.x (kept_at s c)
+kept_so home reach s c knows = keyed_at (λ y (z : Keeping). IsKeptSo home reach y z.kept) no_keeping s.x tt
+    (let r = root_at (root_of s.path) c in r.keeping)
+    (all_at (IsRootSo home reach) no_root tt (let u = root_of s.path in u.num) c.roots knows.roots)
+
+-- whatever servers reached
+abbrev any_reach : Reach
+any_reach j y n i = true
+
+any_passes : (j i : ℕ) (o : Option Parts) → PassesIn any_reach j i o
+any_passes j i None = λ y n. refl
+any_passes j i (Some t) = λ y n c at low. refl
+
 -- ---- a node at work
 
 pub record Works (hd : Header) (k : ℕ) (d : Disk) (t : Parts) (M : Moment) : Type 0 where
@@ -67,6 +89,7 @@ pub record Works (hd : Header) (k : ℕ) (d : Disk) (t : Parts) (M : Moment) : T
   pub addressed : Wide (AreAddressed hd) (up k d t M)
   pub made : AnswersAreMade says_so (up k d t M)
   pub full : AnswersAreMade says_full (up k d t M)
+  pub lives : Wide (WhileFew IsGood) (up k d t M)
 
 -- The action that waits, in the journal's words: it's open, has one more asked than answered, and waits for that.
 pub record IsCaller (k : ℕ) (M : Moment) (u : Uid) (w : Doing) (s : Steps) : Type 0 where
@@ -228,6 +251,24 @@ module _ (hd : Header) (k : ℕ) (d : Disk) (t : Parts) (M : Moment) (W : Works 
       let b = W.known.2.0.0.1 in
       let n = b.nodes k mine_node t here refl in
       n.steps u w s found is
+
+  -- what the root keeps under the binding that is activated is of the server that is asked
+  pub one_server : HasFewBindings M.seen.lines → (x old : calls.Known) (st : ObjectState) → s.at ≡ AtActivate x st → kept_at s t.coord ≡ Some old →
+      binding_eq old.binding x.binding ≡ true → old.server ≡ x.server
+  one_server few x old st at keeps same =
+      let l = (W.lives.2.1 few).0.0 in
+      let gs = l.0 in
+      let lived = l.1 in
+      let home = home_in l.0 in
+      let f = lived.lived (home_in l.0) any_reach (is_home l.0 lived.apart) (record {
+        zero = λ j y n. refl;
+        nodes = λ j m there. record { past = λ y n h less. refl; here = any_passes j (let e = m.disk in e.inc) m.live };
+      }) in
+      let mine = (f.nodes k mine_node here t refl).0 in
+      let works : IsNowSo home any_reach (Calling s) = subst (IsNowSo home any_reach) is (mine.works u w found) in
+      let known : IsKnownSo home any_reach s.x x = (subst (IsAtSo home any_reach s.x) at works).0 in
+      let kept : IsKnownSo home any_reach s.x old = subst (IsKeptSo home any_reach s.x) keeps (kept_so home any_reach s t.coord mine) in
+      kept.0 ∙ ap home (eqb-true (binding_number old.binding) (binding_number x.binding) same) ∙ sym known.0
 
   -- ---- an answer is taken
 

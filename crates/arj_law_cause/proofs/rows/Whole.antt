@@ -2,7 +2,7 @@
 use Rattle.arj_law_parts.proofs.Words
 use Words.{◌≡◌, ◌∙◌, ◌+◌, ◌++◌, ℕ, Bool, true, false, cond, if◌then◌else◌, List, [], ◌∷◌, length, Option, Some, None, refl, sym, ap}
 use Words.{Arm, Event, arith, append-nil, filter, at_place, Body, Header, Label, Line, Node, Start, IsFormed, World, counted}
-use Words.{first_reason, giving}
+use Words.{append_assoc, first_reason, giving, subst}
 use Words.{happens, is_given, lacks_labels, limited, no_labels, node_in, node_of, numbered, reasons, run_event, run_unless, world_from}
 use Words.{Move, moved}
 use Words.{Disk, Input, Parts}
@@ -16,19 +16,25 @@ use Rattle.arj_law_parts.specs.moves.Moments.{History, Moment, come, gone, no_hi
 use Rattle.arj_law_parts.specs.moves.With.{KeepsSteps, KeepsWith, asked_at, asked_of_node, look, past_event, past_unless, written}
 use Rattle.arj_law_parts.specs.steps.Writes as writes
 use Rattle.arj_law_runs.proofs.addresses.Runs.{kept}
+use Rattle.arj_law_runs.proofs.bindings.Events.{moves_few}
+use Rattle.arj_law_runs.proofs.calls.{Given.keeps_given, WholeRuns.WhileFew, WholeRuns.few_before, WholeRuns.few_go}
 use Rattle.arj_law_runs.proofs.follow.Along.{Ended, Outcome, Went, event_of, runs_along}
 use Rattle.arj_law_runs.proofs.follow.Frames as frames
 use Rattle.arj_law_runs.proofs.follow.Halts.{KnowsAll, halts_keep}
 use Rattle.arj_law_runs.proofs.follow.Reasons.{joined, refused_by_any}
 use Rattle.arj_law_runs.proofs.follow.Refusing as refusing
 use Rattle.arj_law_runs.proofs.follow.Refusing.{Came, IsRefused, IsRun, same_bodies}
+use Rattle.arj_law_runs.proofs.kept.AllRuns.{all_keep}
 use Rattle.arj_law_runs.specs.addresses.Addresses.{AreAddressed}
-use Rattle.arj_law_runs.specs.follow.Frames.{FramesStep, are_so}
+use Rattle.arj_law_runs.specs.calls.{Bindings.HasFewBindings, Runs.KnowsFew}
+use Rattle.arj_law_runs.specs.follow.Frames.{FramesStep, are_so, run_events}
+use Rattle.arj_law_runs.specs.kept.Worlds.{IsGood}
 use Rattle.arj_journal.specs.ScriptForm.{HeaderInForm}
 use Rattle.arj_model.specs.CauseSpans.{here_at}
 use Rattle.arj_model.specs.Actions.{acts, path}
-use Rattle.arj_model.specs.Past.{Past, asked_of, at_start, block, is_refused, label_of, next}
-use Rattle.arj_promise.specs.Runs.{IsStoppedInForm}
+use Rattle.arj_model.specs.Follows.{Runs}
+use Rattle.arj_model.specs.Past.{Along, Past, asked_of, at_start, block, is_refused, label_of, next}
+use Rattle.arj_promise.specs.Runs.{IsStoppedInForm, journal_by}
 use Rattle.arj_law_cause.proofs.rows.{Accepting.asked_same, Accepting.refused_asks, Accepting.same_refusal, Asks.AreSameAsks}
 use Rattle.arj_law_cause.proofs.rows.{Asks.asks_some}
 use Rattle.arj_law_cause.proofs.rows.Lined
@@ -54,11 +60,15 @@ same_event (Some a) w g = by (at_place a.0 w.nodes)
     by None = refl
     by (Some n) = refl
 
+-- its answers fit, where naming makes few bindings by then
+abbrev FewStep : Header → Past → Event → List Body → Type 0
+FewStep hd p e bodies = HasFewBindings (p.lines ++ block (p.count + 1) bodies) → AnswersStep hd p e bodies
+
 module _ (hd : Header) (form : HeaderInForm hd) (st : Start) where
   -- ---- what is known
 
   abbrev Knows : Moment → Type 0
-  Knows M = Wide Pathed M × (Wide KnowsAll M × (Wide (AreAddressed hd) M × Stocked hd M))
+  Knows M = Wide Pathed M × (Wide KnowsAll M × (Wide (AreAddressed hd) M × (Stocked hd M × Wide (WhileFew IsGood) M)))
 
   abbrev Tied : Moment → Type 0
   Tied M = Knows M × AskedAreTied M
@@ -69,11 +79,20 @@ module _ (hd : Header) (form : HeaderInForm hd) (st : Start) where
   names_wide : KeepsWith hd (IsAtStarts hd (AreAddressed hd)) (Wide (AreAddressed hd))
   names_wide = wide_kept hd (IsAtStarts hd (AreAddressed hd)) (AreAddressed hd) (kept hd form)
 
+  lives_wide : KeepsWith hd (IsAtStarts hd (WhileFew IsGood)) (Wide (WhileFew IsGood))
+  lives_wide = wide_kept hd (IsAtStarts hd (WhileFew IsGood)) (WhileFew IsGood) (keeps_asked hd (WhileFew IsGood)
+      (few_go hd IsGood (keeps_given hd KnowsFew IsGood (all_keep hd))))
+
   knows_steps : KeepsSteps hd Knows
-  knows_steps = steps_both hd (Wide Pathed) (λ M. Wide KnowsAll M × (Wide (AreAddressed hd) M × Stocked hd M))
+  knows_steps =
+      let kept = steps_both hd (Stocked hd) (Wide (WhileFew IsGood)) (let k = stocked_keep hd form in k.steps)
+      (let k = lives_wide in k.steps) in
+      let named = steps_both hd (Wide (AreAddressed hd)) (λ M. Stocked hd M × Wide (WhileFew IsGood) M)
+      (let k = names_wide in k.steps) kept in
+      steps_both hd (Wide Pathed) (λ M. Wide KnowsAll M × (Wide (AreAddressed hd) M × (Stocked hd M × Wide (WhileFew IsGood) M)))
       (let k = pathed_wide hd in k.steps)
-      (steps_both hd (Wide KnowsAll) (λ M. Wide (AreAddressed hd) M × Stocked hd M) (let k = halts_wide in k.steps)
-      (steps_both hd (Wide (AreAddressed hd)) (Stocked hd) (let k = names_wide in k.steps) (let k = stocked_keep hd form in k.steps)))
+      (steps_both hd (Wide KnowsAll) (λ M. Wide (AreAddressed hd) M × (Stocked hd M × Wide (WhileFew IsGood) M))
+      (let k = halts_wide in k.steps) named)
 
   tied_steps : KeepsSteps hd Tied
   tied_steps = tied_step hd Knows knows_steps (λ M h. paths_of_wide M h.0)
@@ -94,7 +113,8 @@ module _ (hd : Header) (form : HeaderInForm hd) (st : Start) where
     all = h.1.0.1.0;
     addressed = h.1.0.1.1.0;
     made = h.0.1;
-    full = h.1.0.1.1.1.1;
+    full = h.1.0.1.1.1.0.1;
+    lives = h.1.0.1.1.1.1;
   }
 
   pub its_beside : Beside hd Between Inner
@@ -108,7 +128,13 @@ module _ (hd : Header) (form : HeaderInForm hd) (st : Start) where
     opens = λ e M first number h. (
       (
         (
-          (h.0.0.0.0, (h.0.0.0.1.0, (h.0.0.0.1.1.0, (let k = stocked_keep hd form in k.opens e M first number h.0.0.0.1.1.1)))),
+          (
+            h.0.0.0.0,
+            (
+              h.0.0.0.1.0,
+              (h.0.0.0.1.1.0, ((let k = stocked_keep hd form in k.opens e M first number h.0.0.0.1.1.1.0), h.0.0.0.1.1.1.1)),
+            ),
+          ),
           (let t = h.0.0.1 in record { tied = t.tied; new = t.new }),
         ),
         h.0.1,
@@ -123,7 +149,7 @@ module _ (hd : Header) (form : HeaderInForm hd) (st : Start) where
         wrote = [];
         lines = lines ∙ sym (append-nil before);
         paths = h.1;
-        fit = λ accepted same. refl;
+        fit = λ few accepted same. refl;
       },
     );
     leaves = λ before event bodies M number lines h. (
@@ -131,7 +157,13 @@ module _ (hd : Header) (form : HeaderInForm hd) (st : Start) where
         (
           (
             h.0.0.1.0.0,
-            (h.0.0.1.0.1.0, (h.0.0.1.0.1.1.0, (let k = stocked_keep hd form in k.closes bodies M number lines h.0.0.1.0.1.1.1))),
+            (
+              h.0.0.1.0.1.0,
+              (
+                h.0.0.1.0.1.1.0,
+                ((let k = stocked_keep hd form in k.closes bodies M number lines h.0.0.1.0.1.1.1.0), h.0.0.1.0.1.1.1.1),
+              ),
+            ),
           ),
           (let t = h.0.0.1.1 in record { tied = t.tied; new = t.new }),
         ),
@@ -297,8 +329,8 @@ module _ (hd : Header) (form : HeaderInForm hd) (st : Start) where
         -- each line has its cause
         run_fits : (let x = counted v in x.lines) ++ block (w.event + 1) bodies
             ≡ (limited (happens e arm (counted v))).lines →
-            AnswersStep hd p e bodies
-        run_fits lines =
+            FewStep hd p e bodies
+        run_fits lines few =
             let H = Running.happened_at hd Between Inner its_beside s.history v armed e
             arm free on in
             let L = H.holds.1 in
@@ -312,7 +344,8 @@ module _ (hd : Header) (form : HeaderInForm hd) (st : Start) where
               number = count_is i + 1;
               first = length (lines_are i);
               lines = lines_are i;
-            }) (wrote i)) ∙ L.fit (next p e bodies).accepted accepted_same
+            }) (wrote i)) ∙ L.fit (subst HasFewBindings ((λ i. lines_are i ++ block (count_is i + 1) bodies) ∙ lines) few)
+            (next p e bodies).accepted accepted_same
 
       stands_then : refusing.Stands hd form (next p e bodies) (moved m w) → Agrees → Stands (next p e bodies) (moved m w)
       stands_then base agrees = record {
@@ -324,15 +357,15 @@ module _ (hd : Header) (form : HeaderInForm hd) (st : Start) where
       }
 
       went : Came e arm (counted v) bodies →
-          refusing.Stands hd form (next p e bodies) (moved m w) → Outcome (AnswersStep hd) Stands m p w
-      went (IsRefused c refused is) base = Went bodies (ap (λ bs. are_so answer_fits (here_at hd p e bs) bs) is)
+          refusing.Stands hd form (next p e bodies) (moved m w) → Outcome (FewStep hd) Stands m p w
+      went (IsRefused c refused is) base = Went bodies (λ few. ap (λ bs. are_so answer_fits (here_at hd p e bs) bs) is)
           (stands_then base (refused_agrees c refused is))
       went (IsRun none isnt lines) base = Went bodies (run_fits none isnt lines) (stands_then base (run_agrees none isnt))
 
-    goes : Outcome (AnswersStep hd) Stands m p w
+    goes : Outcome (FewStep hd) Stands m p w
     goes = by (frames.goes hd form m p w stops (let b = s.base in b.base) on)
       where
-        by : Outcome (FramesStep hd) (frames.Stands hd form) m p w → Outcome (AnswersStep hd) Stands m p w
+        by : Outcome (FramesStep hd) (frames.Stands hd form) m p w → Outcome (FewStep hd) Stands m p w
         by (Ended over event lines) = Ended over event lines
         by (Went bodies step after) =
             let c = refusing.goes_with hd form m p w stops s.base on bodies after in
@@ -348,7 +381,10 @@ module _ (hd : Header) (form : HeaderInForm hd) (st : Start) where
           ([], (λ p i. i), (let k = pathed_wide hd in k.first st formed)),
           (
             ([], (λ p i. i), (let k = halts_wide in k.first st formed)),
-            (([], (λ p i. i), (let k = names_wide in k.first st formed)), (let k = stocked_keep hd form in k.first st formed)),
+            (
+              ([], (λ p i. i), (let k = names_wide in k.first st formed)),
+              ((let k = stocked_keep hd form in k.first st formed), ([], (λ p i. i), (let k = lives_wide in k.first st formed))),
+            ),
           ),
         ),
         (let t = first_tied hd st in record { tied = t.tied; new = t.new }),
@@ -367,9 +403,35 @@ module _ (hd : Header) (form : HeaderInForm hd) (st : Start) where
     asks = refl;
   }
 
+-- ---- few bindings
+
+-- a run that goes on has more lines
+along_more : (P : Past → Event → List Body → Type 0) (es : List Event) (p end : Past) → Along P p es end →
+    (more : List Line) × (end.lines ≡ p.lines ++ more)
+along_more P [] p end same = ([], ap (λ (z : Past). z.lines) (sym same) ∙ sym (append-nil p.lines))
+along_more P (e ∷ es) p end h =
+    let r = along_more P es (next p e h.0) end h.2 in
+    (block (p.count + 1) h.0 ++ r.0, r.1 ∙ append_assoc p.lines (block (p.count + 1) h.0) r.0)
+
+few_along : (hd : Header) (es : List Event) (p end : Past) → Along (FewStep hd) p es end → HasFewBindings end.lines →
+    Along (AnswersStep hd) p es end
+few_along hd [] p end h few = h
+few_along hd (e ∷ es) p end h few =
+    let r = along_more (FewStep hd) es (next p e h.0) end h.2 in
+    (h.0, h.1 (few_before (let z = next p e h.0 in z.lines) r.0 (subst HasFewBindings r.1 few)), few_along hd es (next p e h.0) end h.2 few)
+
 pub answers_are_caused : AnswersHaveCauses
 answers_are_caused hd r form =
-    runs_along (AnswersStep hd) (Stands hd form.header r.start) IsStoppedInForm (λ p w s. let b = s.base in let f = b.base in f.lines)
+    let runs : Runs (FewStep hd) r.start (run_events hd r) (journal_by hd r) =
+    runs_along (FewStep hd) (Stands hd form.header r.start) IsStoppedInForm (λ p w s. let b = s.base in let f = b.base in f.lines)
     (λ p w s. let b = s.base in let f = b.base in f.count)
     (λ m p w stops s on. goes hd form.header r.start m p w stops s on) r.start r.moves (world_from hd r.start) form.stops
-    (first_stands hd form.header r.start r.formed)
+    (first_stands hd form.header r.start r.formed) in
+    let end = runs.0 in (
+      runs.0,
+      runs.1,
+      few_along hd (run_events hd r) (at_start r.start) runs.0 runs.2
+          (few_before end.lines runs.1 (subst HasFewBindings runs.3 (moves_few hd r form.few))),
+      runs.3,
+      runs.4,
+    )

@@ -1,6 +1,5 @@
 -- The lines that answer calls, against the causes that the journal has for them.
 use Rattle.std.specs.Prelude.{◌≡◌, ℕ, List, [], ◌∷◌, Bool, true, ◌==◌, ◌&&◌, ◌||◌}
-use Rattle.std.specs.List.{list_any}
 use Rattle.arj_base.specs.declared.mode.Mode.{Mode}
 use Rattle.arj_base.specs.declared.mode.Mode.TheVariants.{Write}
 use Rattle.arj_journal.specs.declared.body.Body.{Body}
@@ -9,10 +8,9 @@ use Rattle.arj_journal.specs.declared.body.FrameKind.TheVariants as frame
 use Rattle.arj_journal.specs.declared.event.Event.{Event}
 use Rattle.arj_journal.specs.declared.header.Header.{Header}
 use Rattle.arj_text.specs.Label.{name}
-use Rattle.arj_model.specs.Actions.{Act}
 use Rattle.arj_model.specs.CauseAnswers.{was_told}
-use Rattle.arj_model.specs.Past.{Asked, Past}
-use Rattle.arj_model.specs.CauseSpans.{Here, answered, asks_so, here_at, is_call, nodes_of, same_mode}
+use Rattle.arj_model.specs.Past.{Past}
+use Rattle.arj_model.specs.CauseSpans.{Here, answered, asks_so, here_at, is_call, same_mode}
 use Rattle.arj_model.specs.Caused.{has_cause}
 use Rattle.arj_model.specs.Follows.{Runs}
 use Rattle.arj_law_runs.specs.follow.Frames.{are_so, run_events}
@@ -23,13 +21,9 @@ abbrev pub came_from_store : Here → List ℕ → Mode → ℕ → Bool
 came_from_store h l held n =
     same_mode held Write && asks_so h l (λ a k. answered h k.at a.uid.node n (frame.Loaded ∷ []) (λ before. true))
 
--- some server answered what was asked that it has a copy
-abbrev pub was_activated : Here → Act → Asked → Bool
-was_activated h a k = list_any (λ n. answered h k.at a.uid.node n (frame.Activated ∷ []) (λ before. true)) (nodes_of h.header)
-
--- a call was asked, and an answer to it told of the node
+-- a call was asked, and what changed was found at the action's node, or by naming there, or in an answer to it
 abbrev pub was_called : Here → List ℕ → ℕ → Bool
-was_called h l n = asks_so h l (λ a k. is_call k.event && (was_told h n a k || was_activated h a k))
+was_called h l n = asks_so h l (λ a k. is_call k.event && was_told h n a k)
 
 -- A line that answers a call or an include as done has its cause; so has one that says what was lost, and one that says a conflict, unless
 -- a store said it. One that says what changed has this much of its cause.
