@@ -189,7 +189,8 @@ module _ (hd : Header) (st : Start) (before : List Line) (event : ℕ) where
   free_lined bs M all h = said_so bs M (λ few accepted same g is. free_so g bs all) h
 
   one_lined : (b : Body) (M : Moment) → (HasFewBindings M.seen.lines → (accepted : List AskedOf) →
-      AreSameAsks accepted (accepted_of M.past.askings) → answer_fits (here_of accepted M M.seen.lines) b ≡ true) → Lined M → Lined (said (b ∷ []) M)
+      AreSameAsks accepted (accepted_of M.past.askings) → answer_fits (here_of accepted M M.seen.lines) b ≡ true) →
+      Lined M → Lined (said (b ∷ []) M)
   one_lined b M fits h = said_so (b ∷ []) M
       (λ few accepted same g is. λ i. (ap (λ z. answer_fits z b) is ∙ fits few accepted same) i && true) h
 
@@ -209,7 +210,8 @@ module _ (hd : Header) (st : Start) (before : List Line) (event : ℕ) where
       number = event;
       first = length before;
       lines = before;
-    }) h.wrote) ∙ h.fit (subst HasFewBindings lines few) accepted (same ∙ ap (λ (p : History). filter asks_some (accepted_of p.askings)) past);
+    }) h.wrote) ∙
+        h.fit (subst HasFewBindings lines few) accepted (same ∙ ap (λ (p : History). filter asks_some (accepted_of p.askings)) past);
   }
 
   framed_lined : (b : Body) (M : Moment) (n : ℕ) → FitsAnywhere b → Lined M →

@@ -253,8 +253,8 @@ module _ (hd : Header) (k : ℕ) (d : Disk) (t : Parts) (M : Moment) (W : Works 
       n.steps u w s found is
 
   -- what the root keeps under the binding that is activated is of the server that is asked
-  pub one_server : HasFewBindings M.seen.lines → (x old : calls.Known) (st : ObjectState) → s.at ≡ AtActivate x st → kept_at s t.coord ≡ Some old →
-      binding_eq old.binding x.binding ≡ true → old.server ≡ x.server
+  pub one_server : HasFewBindings M.seen.lines → (x old : calls.Known) (st : ObjectState) → s.at ≡ AtActivate x st →
+      kept_at s t.coord ≡ Some old → binding_eq old.binding x.binding ≡ true → old.server ≡ x.server
   one_server few x old st at keeps same =
       let l = (W.lives.2.1 few).0.0 in
       let gs = l.0 in
