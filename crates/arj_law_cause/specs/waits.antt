@@ -4,3 +4,4 @@ pub mod commits
 pub mod lost
 pub mod objects
 pub mod lowest
+pub mod doomed

@@ -1,5 +1,6 @@
 // Causes of refusals, by the journal alone.
 ghost use Rattle.arj_law_cause.specs.follow.causes.Refusals.{TreeRefusalsFollow};
+ghost use Rattle.arj_law_cause.specs.waits.doomed.Dooms.{DoomsHaveCauses};
 ghost use Rattle.arj_law_cause.specs.waits.lowest.Refusals.{RefusalsFollow};
 ghost use Rattle.arj_law_cause.specs.waits.objects.Refusals.{ObjectRefusalsFollow};
 
@@ -24,4 +25,12 @@ pub fn object_refusals_follow()
 /// action is doomed, where the number of its lowest cause is greater than that one's. It does nothing when it runs.
 pub fn refusals_follow()
     ensures runs { RefusalsFollow }
+{}
+
+/// In every run in form, wherever it begins and wherever disks stop, an event that is refused since an action is doomed is about an action
+/// that is doomed by the events and the journal before it: a call of it was lost in a giveup, at a node to which its own node had sent an
+/// Invoke in the span of what was asked. So is the action of a commit that was aborted as doomed, and it is no serializing action. It does
+/// nothing when it runs.
+pub fn dooms_have_causes()
+    ensures runs { DoomsHaveCauses }
 {}

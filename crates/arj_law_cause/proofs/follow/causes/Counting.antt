@@ -2,7 +2,7 @@
 use Rattle.arj_law_parts.proofs.Words
 use Words.{◌≡◌, ◌∙◌, ◌+◌, ◌==◌, ℕ, zero, suc, Bool, true, false, cond, List, [], ◌∷◌, ◌++◌, filter, length, refl, sym, ap, subst, arith}
 use Words.{nat_tests, nat_le, Option, Some, None, slice_get, slice_set, unwrap_or, length-append, filter-append, put_other, put_same}
-use Words.{at_number, put_number, Branch, Coord, End, Family, Kind, Path, Tree, Uid, at_place, begun_by, branch_of, doomed_at}
+use Words.{actor, at_number, put_number, Branch, Coord, End, Family, Kind, Path, Tree, Uid, at_place, begun_by, branch_of, doomed_at}
 use Words.{doomed_branch, ended_at, ended_branch, eqb-true, family_of, next_uid, no_family, parent_of, path_below, root_of, set_place}
 use Words.{uids_of, uses_object, with_family}
 use Rattle.arj_law_runs.proofs.Terms.{found_by, actions_at}
@@ -168,10 +168,11 @@ counted_begun how p t its =
 pub counts_kept : IsKept Counts
 counts_kept = record {
   new = λ node inc telling k. refl;
-  hears = λ actions paths tree from a r intents c good its. of_heard IsCounted counted_doomed counted_ended from a r intents c its;
+  hears = λ actions paths tree from a r intents c good its. of_heard IsCounted counted_ended from a r intents c its;
   acks = λ from u intents c its. subst IsCounted (sym (acked_tree from u intents c)) its;
   does = λ actions paths tree intents c good its hd i none other.
-      of_acts IsCounted counted_doomed counted_ended counted_uses intents c its i other;
+      of_acts IsCounted counted_ended counted_uses intents c its i other
+      (λ l b is named d s does now waits t it. counted_doomed (actor s.path) t it);
   begins = λ actions begun paths tree l k parent c good may none its.
       counted_begun k (path_below k (parent_of parent c) (next_uid c.tree)) c.tree its;
   asks = λ ds c its. subst IsCounted (sym (again_tree ds c)) its;

@@ -349,7 +349,7 @@ module _ (k : ℕ) (d : Disk) (t : Parts) (M : Moment) (h : Core (up k d t M)) (
       like : (f : Option Branch) → IsLike t.coord.tree (let c = on_branch (λ b. commit_action b d.intents t.coord) t.coord f in
           let e = c.part in e.tree)
       like None = like_itself t.coord.tree
-      like (Some b) = of_commit (IsLike t.coord.tree) (like_doomed t.coord.tree) (like_ended t.coord.tree) b d.intents t.coord
+      like (Some b) = of_commit (IsLike t.coord.tree) (like_ended t.coord.tree) b d.intents t.coord
           (like_itself t.coord.tree)
   act_walk hd (input.Abort l) is brings first free = let did = does (input.Abort l) d.intents t.coord in
       like_walk k t (with_coord t did.part) did.outs d M (like (branch_named l t.coord)) agree
@@ -357,7 +357,7 @@ module _ (k : ℕ) (d : Disk) (t : Parts) (M : Moment) (h : Core (up k d t M)) (
       like : (f : Option Branch) → IsLike t.coord.tree (let c = on_branch (λ b. abort_action (actor b.path) d.intents t.coord) t.coord f in
           let e = c.part in e.tree)
       like None = like_itself t.coord.tree
-      like (Some b) = of_all (IsLike t.coord.tree) (like_doomed t.coord.tree) (like_ended t.coord.tree)
+      like (Some b) = of_all (IsLike t.coord.tree) (like_ended t.coord.tree)
           (open_below (actor b.path) t.coord.tree ++ actor b.path ∷ []) t.coord (like_itself t.coord.tree)
   act_walk hd (input.GiveUp l) is brings first free = let did = does (input.GiveUp l) d.intents t.coord in
       like_walk k t (with_coord t did.part) did.outs d M (like (branch_named l t.coord)) agree
@@ -365,8 +365,8 @@ module _ (k : ℕ) (d : Disk) (t : Parts) (M : Moment) (h : Core (up k d t M)) (
       like : (f : Option Branch) → IsLike t.coord.tree (let c = on_branch (λ b. give_up (actor b.path) d.intents t.coord) t.coord f in
           let e = c.part in e.tree)
       like None = like_itself t.coord.tree
-      like (Some b) = of_give_up (IsLike t.coord.tree) (like_doomed t.coord.tree) (like_ended t.coord.tree) (actor b.path) d.intents t.coord
-          (like_itself t.coord.tree)
+      like (Some b) = of_give_up (IsLike t.coord.tree) (like_ended t.coord.tree) (actor b.path) d.intents t.coord
+          (λ q s does now waits z it. like_doomed t.coord.tree (actor s.path) z it) (like_itself t.coord.tree)
   act_walk hd i is brings first free = absurd (cc is)
 
   -- a message
@@ -374,7 +374,7 @@ module _ (k : ℕ) (d : Disk) (t : Parts) (M : Moment) (h : Core (up k d t M)) (
       IsLike t.coord.tree v.coord.tree
   handled v from m outs is = subst (IsLeft (λ (c : Coord). IsLike t.coord.tree c.tree)) is
       (coord_kept (λ (c : Coord). IsLike t.coord.tree c.tree) k d t from (like_itself t.coord.tree)
-      (λ a r. of_heard (IsLike t.coord.tree) (like_doomed t.coord.tree) (like_ended t.coord.tree) from a r d.intents t.coord
+      (λ a r. of_heard (IsLike t.coord.tree) (like_ended t.coord.tree) from a r d.intents t.coord
       (like_itself t.coord.tree))
       (λ u. subst (IsLike t.coord.tree) (sym (acked_tree from u d.intents t.coord)) (like_itself t.coord.tree)) m)
 
