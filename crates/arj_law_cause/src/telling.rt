@@ -1,10 +1,17 @@
 // What every journal says of why it is so.
-ghost use Rattle.arj_law_cause.specs.told.Runs.{JournalsTell};
+ghost use Rattle.arj_law_cause.specs.told.Runs.{JournalsTell, RunsFollow};
 
 /// In every run in form, wherever it begins and wherever disks stop, the journal says why it is so, in words of the header, the events and its
-/// own lines (`TellsItsCauses`): what each event writes and for what it is refused (`TellsEvents`); what actions wait for and what ends it
-/// (`TellsWaits`); what calls are answered (`TellsAnswers`); what nodes do (`TellsNodes`); and what goes between them (`TellsWorld`). It does
-/// nothing when it runs.
+/// own lines (`TellsItsCauses`): what each event writes and for what it is refused (`TellsEvents`); what calls are answered (`TellsAnswers`);
+/// what nodes do (`TellsNodes`); and what goes between them (`TellsWorld`). It does nothing when it runs.
 pub fn journals_tell_their_causes()
     ensures runs { JournalsTell }
+{}
+
+/// In every run in form, wherever it begins and wherever disks stop, the journal follows the events that were run (`Follows` of `arj_model`):
+/// an event that has a cause to be refused, by the journal before it, is refused for its lowest one, or since an action is doomed, which the
+/// journal dooms; any other writes its own lines, between them such as may stand there, each of them an answer to what was asked, and its end.
+/// It does nothing when it runs.
+pub fn journals_follow_their_events()
+    ensures runs { RunsFollow }
 {}

@@ -1,4 +1,4 @@
--- One event: what laws say of its lines one by one makes what it may write.
+-- One event: what laws say of its lines one by one makes what it may write (`Step` of `arj_model`).
 use Rattle.arj_law_parts.proofs.Words
 use Words.{◌≡◌, ◌⊎◌, ◌∙◌, ◌+◌, ◌==◌, ◌&&◌, ◌++◌, inl, inr, ⊎_elim, ℕ, Bool, true, false, List, [], ◌∷◌, Option, Some, None, refl, sym, ap, subst}
 use Words.{append-nil, append_assoc, and_parts, eqb-true, list_all, AllByRecursion, Body, Event, Header, Label, Line, name}
@@ -8,16 +8,17 @@ use Words.event
 use Rattle.std.specs.Prelude.{MatchOption}
 use Rattle.arj_journal.specs.declared.body.Cause.{Cause}
 use Rattle.arj_model.specs.Actions.{Act, act_in, acts}
-use Rattle.arj_model.specs.Follows.{AnswerFits, AnswersFit, is_behind_doom, is_limited}
-use Rattle.arj_model.specs.Own.{commit_line, may_stand}
+use Rattle.arj_model.specs.Follows.{Accepted, AnswerFits, AnswersFit, IsRefusedDoomed, Step, is_limited}
+use Rattle.arj_model.specs.Own.{Begins, BeginsCommit, commit_line, may_stand}
 use Rattle.arj_model.specs.Past.{Asked, Past, asked_of, block, is_refused}
 use Rattle.arj_model.specs.Refusals.{refusal}
+use Rattle.arj_start.specs.Kinds.{is_serial}
 use Rattle.arj_start.specs.Start.{Start}
 use Rattle.arj_law_cause.specs.follow.causes.Refusals.{doomed}
 use Rattle.arj_law_cause.specs.follow.lines.Lines.{BeginsCommitSo, BeginsSo, HasLines, LinesStep, NetFits, is_of_net, may_stand_or_lose}
 use Rattle.arj_law_cause.specs.operations.Runs.{AnswersIt}
-use Rattle.arj_law_cause.specs.told.Steps.{AcceptedSo, StepSo}
 use Rattle.arj_law_cause.specs.waits.commits.Commits.{CommitsFit, CommitsFitIn, CommitsStep, calls_commit, ends_commit}
+use Rattle.arj_law_cause.specs.waits.doomed.Dooms.{DoomsStep, IsToldDoomed}
 use Rattle.arj_law_cause.specs.waits.lost.Lost.{LostStep, is_lost}
 use Rattle.arj_law_cause.specs.waits.lowest.Refusals.{RefusalsStep}
 use Rattle.arj_law_cause.specs.waits.replies.Ends.{EndWaits, EndsWait, RepliesStep}
@@ -76,6 +77,22 @@ one_own hd p (event.Commit l) own is begins = by (act_in (acts p.lines) (name l)
     by None h = absurd h
     by (Some a) h = ⊎_elim (λ k. (commit_line a.kind l, k)) (λ k. (body.Aborted l cause.Doomed, k)) h
 one_own hd p e own is begins = absurd (cc is)
+
+-- a commit says that its action is doomed where the journal dooms it
+begun : (hd : Header) (p : Past) (e : Event) (own : List Body) → BeginsSo hd p e own →
+    ((l : Label) → e ≡ event.Commit l → own ≡ body.Aborted l cause.Doomed ∷ [] → IsToldDoomed p (name l)) → Begins hd p e own
+begun hd p (event.Commit l) own begins dooms = by (act_in (acts p.lines) (name l)) refl begins
+  where
+    same_kind : (a : Act) (t : IsToldDoomed p (name l)) → act_in (acts p.lines) (name l) ≡ Some a → is_serial a.kind ≡ false
+    same_kind a t is =
+        let one : ◌≡◌ {A = Option Act} (Some a) (Some t.act) = sym is ∙ t.named in
+        let same : a ≡ t.act = cc one in
+        ap (λ (x : Act). is_serial x.kind) same ∙ t.plain
+
+    by : (o : Option Act) → act_in (acts p.lines) (name l) ≡ o → BeginsCommitSo l o own → BeginsCommit p l o own
+    by None is h = absurd h
+    by (Some a) is h = ⊎_elim (λ k. inl k) (λ k. let t = dooms l refl k in inr (k, same_kind a t is, t.lost)) h
+begun hd p e own begins dooms = begins
 
 -- ---- a line
 
@@ -145,14 +162,14 @@ one_refused (b ∷ []) is = absurd (cc is)
 one_refused (b ∷ c ∷ bs) is = let no_way : true ≡ false = sym is ∙ two_lines b c bs in absurd (cc no_way)
 
 module _ (hd : Header) (p : Past) (e : Event) (bodies : List Body) (replies : RepliesStep hd p e bodies) (commits : CommitsStep hd p e bodies)
-    (lost : LostStep hd p e bodies) (its : AllByRecursion AnswersIt bodies) where
+    (lost : LostStep hd p e bodies) (its : AllByRecursion AnswersIt bodies) (dooms : DoomsStep hd p e bodies) where
   abbrev n : ℕ
   n = p.count + 1
 
   abbrev acc : List Asked
   acc = p.accepted ++ asked_of p e ∷ []
 
-  accepted : HasLines hd p e bodies → AcceptedSo hd p e bodies
+  accepted : HasLines hd p e bodies → Accepted hd p e bodies
   accepted h =
       let may : list_all (may_stand e) h.others ≡ true = all_stand e h.others h.only
       (middle_all (λ (b : Body). is_lost b ≡ true → may_stand e b ≡ true) h.own h.others h.last
@@ -161,7 +178,8 @@ module _ (hd : Header) (p : Past) (e : Event) (bodies : List Body) (replies : Re
         others = h.others;
         last = h.last;
         parts = h.parts;
-        begins = h.begins;
+        begins = begun hd p e h.own h.begins (λ l is k. dooms.aborted l (h.others ++ h.last) is
+            (h.parts ∙ ap (λ own. own ++ (h.others ++ h.last)) k));
         ends = h.ends;
         only = may;
         halts = h.halts;
@@ -175,10 +193,10 @@ module _ (hd : Header) (p : Past) (e : Event) (bodies : List Body) (replies : Re
       }
 
   abbrev Writes : Option ℕ → Type 0
-  Writes o = MatchOption o (AcceptedSo hd p e bodies) (λ c. bodies ≡ body.Refused c ∷ [])
+  Writes o = MatchOption o (Accepted hd p e bodies) (λ c. bodies ≡ body.Refused c ∷ [])
 
   abbrev MayWrite : Type 0
-  MayWrite = Writes (refusal hd p e) ⊎ ((is_behind_doom (refusal hd p e) ≡ true) × (bodies ≡ body.Refused doomed ∷ []))
+  MayWrite = Writes (refusal hd p e) ⊎ IsRefusedDoomed hd p e bodies
 
   -- the lines of an event that isn't refused, which has no cause then
   free : LinesStep hd p e bodies → RefusalsStep hd p e bodies → is_refused bodies ≡ false → (o : Option ℕ) → refusal hd p e ≡ o → Writes o
@@ -191,12 +209,13 @@ module _ (hd : Header) (p : Past) (e : Event) (bodies : List Body) (replies : Re
   refused : RefusalsStep hd p e bodies → (c : ℕ) → bodies ≡ body.Refused c ∷ [] → (b : Bool) → (c == doomed) ≡ b → MayWrite
   refused r c line true same =
       let twelve : bodies ≡ body.Refused doomed ∷ [] = line ∙ ap (λ k. body.Refused k ∷ []) (eqb-true c doomed same) in
-      inr (r.behind twelve, twelve)
+      let d = dooms.refused twelve in
+      inr (record { label = d.0; about = d.1; lost = (let t = d.2 in t.lost); lowest = r.behind twelve; line = twelve })
   refused r c line false off = inl (subst Writes (sym (r.refused c line off)) line)
 
   lines_of : LinesStep hd p e bodies → RefusalsStep hd p e bodies → (b : Bool) → is_refused bodies ≡ b → MayWrite
   lines_of l r true is = let one = one_refused bodies is in refused r one.0 one.1 (one.0 == doomed) refl
   lines_of l r false off = inl (free l r off (refusal hd p e) refl)
 
-  pub assembled : is_limited p.lines ≡ false → LinesStep hd p e bodies → RefusalsStep hd p e bodies → StepSo hd p e bodies
+  pub assembled : is_limited p.lines ≡ false → LinesStep hd p e bodies → RefusalsStep hd p e bodies → Step hd p e bodies
   assembled going l r = record { goes_on = going; lines = lines_of l r (is_refused bodies) refl }

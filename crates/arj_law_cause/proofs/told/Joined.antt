@@ -7,7 +7,7 @@ use Rattle.arj_law_runs.proofs.follow.Along.{Ended, Outcome, Went, runs_along}
 use Rattle.arj_law_runs.proofs.follow.Shorts as shorts
 use Rattle.arj_law_runs.specs.follow.Frames.{run_events}
 use Rattle.arj_journal.specs.ScriptForm.{HeaderInForm}
-use Rattle.arj_model.specs.Follows.{Runs, is_limited}
+use Rattle.arj_model.specs.Follows.{Runs, Step, is_limited}
 use Rattle.arj_model.specs.Past.{Along, Past, at_start, block, next}
 use Rattle.arj_promise.specs.Runs.{IsInForm, IsStoppedInForm, Run}
 use Rattle.arj_promise.specs.Starts.{IsFormed}
@@ -17,6 +17,7 @@ use Rattle.arj_law_cause.proofs.operations.Running.{runs_answer}
 use Rattle.arj_law_cause.proofs.told.Assembled.{assembled, back_all, front_all}
 use Rattle.arj_law_cause.proofs.waits.commits.Fitting as commit_lines
 use Rattle.arj_law_cause.proofs.waits.commits.Running as commits
+use Rattle.arj_law_cause.proofs.waits.doomed.Running as dooms
 use Rattle.arj_law_cause.proofs.waits.lost.Fitting as lost_lines
 use Rattle.arj_law_cause.proofs.waits.lost.Running as losses
 use Rattle.arj_law_cause.proofs.waits.lowest.Running as refusals
@@ -25,8 +26,9 @@ use Rattle.arj_law_cause.proofs.waits.replies.Running as replies
 use Rattle.arj_law_cause.proofs.waits.waiting.Along as giving
 use Rattle.arj_law_cause.specs.follow.lines.Lines.{LinesStep}
 use Rattle.arj_law_cause.specs.operations.Runs.{AnswersIt}
-use Rattle.arj_law_cause.specs.told.Steps.{StepSo}
+use Rattle.arj_law_cause.specs.told.Runs.{RunsFollow}
 use Rattle.arj_law_cause.specs.waits.commits.Commits.{CommitsStep}
+use Rattle.arj_law_cause.specs.waits.doomed.Dooms.{DoomsStep}
 use Rattle.arj_law_cause.specs.waits.lost.Lost.{LostStep}
 use Rattle.arj_law_cause.specs.waits.lowest.Refusals.{RefusalsStep}
 use Rattle.arj_law_cause.specs.waits.replies.Ends.{RepliesStep}
@@ -49,8 +51,11 @@ module _ (hd : Header) (form : HeaderInForm hd) where
   abbrev Waits : Past → World → Type 0
   Waits p w = replies.Inv hd form p w × Ends p w
 
+  abbrev Together : Past → World → Type 0
+  Together p w = Writes p w × Waits p w
+
   abbrev Inv : Past → World → Type 0
-  Inv p w = Writes p w × Waits p w
+  Inv p w = Together p w × dooms.Inv hd form p w
 
   abbrev WritesStep : Past → Event → List Body → Type 0
   WritesStep p e bodies = LinesStep hd p e bodies × RefusalsStep hd p e bodies
@@ -61,8 +66,11 @@ module _ (hd : Header) (form : HeaderInForm hd) where
   abbrev WaitsStep : Past → Event → List Body → Type 0
   WaitsStep p e bodies = RepliesStep hd p e bodies × EndsStep p e bodies
 
+  abbrev TogetherStep : Past → Event → List Body → Type 0
+  TogetherStep p e bodies = WritesStep p e bodies × WaitsStep p e bodies
+
   abbrev AllStep : Past → Event → List Body → Type 0
-  AllStep p e bodies = WritesStep p e bodies × WaitsStep p e bodies
+  AllStep p e bodies = TogetherStep p e bodies × DoomsStep hd p e bodies
 
   -- a run that goes on, and what was written
   abbrev Said : Past → Event → List Body → Type 0
@@ -96,15 +104,22 @@ module _ (hd : Header) (form : HeaderInForm hd) where
   waits_go m p w stops s on = both_go (RepliesStep hd) EndsStep (replies.Inv hd form) Ends
       replied_lines (λ q v z. committed_lines q v z.0) m p w (replies.goes hd form m p w stops s.0 on) (ends_go m p w stops s.1 on)
 
+  doomed_lines : (p : Past) (w : World) → dooms.Inv hd form p w → p.lines ≡ w.lines
+  doomed_lines p w s = let z = s.1 in z.base.base.base.lines
+
+  together_go : (m : Move) (p : Past) (w : World) → IsStoppedInForm m → Together p w → w.over ≡ false → Outcome TogetherStep Together m p w
+  together_go m p w stops s on = both_go WritesStep WaitsStep Writes Waits (λ q v z. written_lines q v z.0) (λ q v z. replied_lines q v z.0)
+      m p w (writes_go m p w stops s.0 on) (waits_go m p w stops s.1 on)
+
   all_go : (m : Move) (p : Past) (w : World) → IsStoppedInForm m → Inv p w → w.over ≡ false → Outcome AllStep Inv m p w
-  all_go m p w stops s on = both_go WritesStep WaitsStep Writes Waits (λ q v z. written_lines q v z.0) (λ q v z. replied_lines q v z.0) m p w
-      (writes_go m p w stops s.0 on) (waits_go m p w stops s.1 on)
+  all_go m p w stops s on = both_go TogetherStep (DoomsStep hd) Together (dooms.Inv hd form) (λ q v z. written_lines q v z.0.0) doomed_lines
+      m p w (together_go m p w stops s.0 on) (dooms.goes hd form m p w stops s.1 on)
 
   goes : (m : Move) (p : Past) (w : World) → IsStoppedInForm m → Inv p w → w.over ≡ false → Outcome Said Inv m p w
   goes m p w stops s on = by (all_go m p w stops s on)
     where
       going : is_limited p.lines ≡ false
-      going = let x = s.0.0 in let b : shorts.Stands hd form p w = x.base in ap is_limited b.base.base.lines ∙ b.limit on
+      going = let x = s.0.0.0 in let b : shorts.Stands hd form p w = x.base in ap is_limited b.base.base.lines ∙ b.limit on
 
       by : Outcome AllStep Inv m p w → Outcome Said Inv m p w
       by (Ended over event lines) = Ended over event lines
@@ -112,22 +127,33 @@ module _ (hd : Header) (form : HeaderInForm hd) where
 
   first_stands : (st : Start) → IsFormed hd st → Inv (at_start st) (world_from hd st)
   first_stands st formed = (
-    (lines.first_turned hd form st formed, refusals.first_stands hd form st formed),
     (
-      (no_history st, replies.first_stands hd form st formed),
+      (lines.first_turned hd form st formed, refusals.first_stands hd form st formed),
       (
-        (no_history st, giving.first_stands hd form commit_lines.All (commit_lines.all_keep hd) (CommitsStep hd) (commits.refused_so hd) (commits.gives hd) st formed),
-        (no_history st, giving.first_stands hd form (lost_lines.All hd) (lost_lines.all_keep hd form) (LostStep hd) (losses.refused_so hd) (losses.gives hd) st formed),
+        (no_history st, replies.first_stands hd form st formed),
+        (
+          (
+            no_history st,
+            giving.first_stands hd form commit_lines.All (commit_lines.all_keep hd) (CommitsStep hd) (commits.refused_so hd)
+                (commits.gives hd) st formed,
+          ),
+          (
+            no_history st,
+            giving.first_stands hd form (lost_lines.All hd) (lost_lines.all_keep hd form) (LostStep hd) (losses.refused_so hd)
+                (losses.gives hd) st formed,
+          ),
+        ),
       ),
     ),
+    (no_history st, dooms.first_stands hd form st formed),
   )
 
   count_is : (p : Past) (w : World) → Inv p w → p.count ≡ w.event
-  count_is p w s = let x = s.0.0 in (let b : shorts.Stands hd form p w = x.base in b.base.base.count)
+  count_is p w s = let x = s.0.0.0 in (let b : shorts.Stands hd form p w = x.base in b.base.base.count)
 
 all_said : (hd : Header) (r : Run hd) (form : IsInForm hd r) → Runs (Said hd form.header) r.start (run_events hd r) (journal_by hd r)
 all_said hd r form =
-    runs_along (Said hd form.header) (Inv hd form.header) IsStoppedInForm (λ p w s. written_lines hd form.header p w s.0.0)
+    runs_along (Said hd form.header) (Inv hd form.header) IsStoppedInForm (λ p w s. written_lines hd form.header p w s.0.0.0)
     (count_is hd form.header) (goes hd form.header) r.start r.moves (world_from hd r.start) form.stops
     (first_stands hd form.header r.start r.formed)
 
@@ -162,9 +188,9 @@ module _ (P Q : Past → Event → List Body → Type 0) (L : Body → Type 0)
   runs_each st es journal all h =
       (h.0, h.1, along (at_start st) es h.0 h.2 (front_all (λ (l : Line). L l.body) (let q = h.0 in q.lines) h.1 (subst EachLine h.3 all)), h.3, h.4)
 
--- In every run each event writes what it may, but for why an action is doomed.
-pub events_follow : (hd : Header) (r : Run hd) → IsInForm hd r → Runs (StepSo hd) r.start (run_events hd r) (journal_by hd r)
-events_follow hd r form =
-    runs_each (Said hd form.header) (StepSo hd) AnswersIt
-    (λ p e bodies s its. assembled hd p e bodies s.1.1.0 s.1.1.1.0 s.1.1.1.1 its s.0 s.1.0.0 s.1.0.1)
+-- In every run each event writes what it may.
+pub journals_follow : RunsFollow
+journals_follow hd r form =
+    runs_each (Said hd form.header) (Step hd) AnswersIt
+    (λ p e bodies s its. let q = s.1.0 in assembled hd p e bodies q.1.0 q.1.1.0 q.1.1.1 its s.1.1 s.0 q.0.0 q.0.1)
     r.start (run_events hd r) (journal_by hd r) (runs_answer hd r form) (all_said hd r form)

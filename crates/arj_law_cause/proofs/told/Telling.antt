@@ -10,10 +10,9 @@ use Rattle.arj_law_cause.proofs.kinds.Limit.{limit_row}
 use Rattle.arj_law_cause.proofs.kinds.Openings.{opening_row}
 use Rattle.arj_law_cause.proofs.kinds.Quiet.{quiet_row}
 use Rattle.arj_law_cause.proofs.kinds.Recovered.{found_row}
-use Rattle.arj_law_cause.proofs.kinds.Refused.{refused_row}
 use Rattle.arj_law_cause.proofs.kinds.Shown.{copy_row, entry_row}
 use Rattle.arj_law_cause.proofs.kinds.Up.{up_row}
-use Rattle.arj_law_cause.proofs.told.Joined.{events_follow}
+use Rattle.arj_law_cause.proofs.told.Joined.{journals_follow}
 use Rattle.arj_law_cause.proofs.rows.Whole.{answers_are_caused}
 use Rattle.arj_law_cause.proofs.waits.replies.Running.{replies_end}
 use Rattle.arj_law_cause.specs.told.Runs.{JournalsTell}
@@ -22,8 +21,7 @@ use Rattle.arj_law_cause.specs.told.Told.{TellsAnswers, TellsEvents, TellsNodes,
 module _ (hd : Header) (r : Run hd) (form : IsInForm hd r) where
   events_told : TellsEvents hd r.start (run_events hd r) (journal_by hd r)
   events_told = record {
-    follows = events_follow hd r form;
-    plain = refused_row hd r form;
+    follows = journals_follow hd r form;
     openings = opening_row hd r form;
   }
 

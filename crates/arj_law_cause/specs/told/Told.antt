@@ -5,33 +5,25 @@ use Rattle.arj_journal.specs.declared.body.Body.{Body}
 use Rattle.arj_journal.specs.declared.body.Line.{Line}
 use Rattle.arj_journal.specs.declared.event.Event.{Event}
 use Rattle.arj_journal.specs.declared.header.Header.{Header}
-use Rattle.arj_model.specs.CauseSpans.{Here}
-use Rattle.arj_model.specs.Follows.{Runs}
+use Rattle.arj_model.specs.Follows.{Follows, Runs}
 use Rattle.arj_start.specs.Start.{Start}
 use Rattle.arj_law_cause.specs.kinds.Kinds.{is_abort_done, is_armed, is_commit_done, is_copy_shown, is_dropped, is_entry_shown}
-use Rattle.arj_law_cause.specs.kinds.Kinds.{is_found, is_got, is_halted, is_limit, is_opening, is_plain_refusal, is_quiet, is_sent, is_told}
+use Rattle.arj_law_cause.specs.kinds.Kinds.{is_found, is_got, is_halted, is_limit, is_opening, is_quiet, is_sent, is_told}
 use Rattle.arj_law_cause.specs.kinds.Kinds.{is_up, is_void}
 use Rattle.arj_law_cause.specs.kinds.Rows.{RowStep, TestedStep}
 use Rattle.arj_law_cause.specs.kinds.Tests.{is_copy_so, is_entry_so, is_told_so}
 use Rattle.arj_law_cause.specs.rows.Lines.{AnswersStep}
-use Rattle.arj_law_cause.specs.told.Steps.{StepSo}
 use Rattle.arj_law_cause.specs.waits.replies.Ends.{RepliesStep}
 
--- each of these lines has its cause, by the events and the lines before it
-abbrev pub HaveCausesWhere : (Here → Body → Bool) → Header → Start → List Event → List Line → Type 0
-HaveCausesWhere of hd st es journal = Runs (RowStep of hd) st es journal
-
--- so has each line of a kind
+-- each line of a kind has its cause, by the events and the lines before it
 abbrev pub HaveCauses : (Body → Bool) → Header → Start → List Event → List Line → Type 0
-HaveCauses of hd st es journal = HaveCausesWhere (λ h. of) hd st es journal
+HaveCauses of hd st es journal = Runs (RowStep (λ h. of) hd) st es journal
 
 -- What each event writes, and for what it is refused.
 pub record TellsEvents (hd : Header) (st : Start) (es : List Event) (journal : List Line) : Type 0 where
-  -- An event is refused for its lowest cause; and where it has none it writes its own lines, between them such as may stand there, each answer
-  -- to what was asked, and its end. Left out is why an action is doomed.
-  pub follows : Runs (StepSo hd) st es journal
-  -- and one that names no action is refused for its cause alone
-  pub plain : HaveCausesWhere is_plain_refusal hd st es journal
+  -- The journal follows its events: an event is refused for its lowest cause, or as an action is doomed, which the journal dooms; else it
+  -- writes its own lines, between them such as may stand there, each answer to what was asked, and its end.
+  pub follows : Follows hd st es journal
   -- an action begins in the event that begins it, a commit is called, and a serializing action ends, in the event that commits it, and an
   -- action that is aborted as the script asks was open, and is the one of the event or below it
   pub openings : HaveCauses is_opening hd st es journal
