@@ -5,16 +5,18 @@ use Rattle.arj_class.specs.declared.value.Value.TheVariants as value
 use Rattle.arj_journal.specs.declared.body.Body.{Body}
 use Rattle.arj_journal.specs.declared.body.Body.TheVariants as body
 use Rattle.arj_journal.specs.declared.body.Part.TheVariants as part
+use Rattle.arj_journal.specs.declared.body.Role.TheVariants as role
 use Rattle.arj_journal.specs.declared.event.Event.TheVariants as event
 use Rattle.arj_journal.specs.declared.header.Header.{Header}
 use Rattle.arj_model.specs.CauseSpans.{Here, behind, here_at}
+use Rattle.arj_model.specs.Caused.{has_cause}
 use Rattle.arj_model.specs.Past.{Past, at_start, next}
 use Rattle.arj_start.specs.Start.{Start, fresh}
-use Rattle.arj_law_cause.specs.kinds.Kinds.{is_copy_shown, is_entry_shown, is_told}
+use Rattle.arj_law_cause.specs.kinds.Kinds.{is_abort_done, is_copy_shown, is_entry_shown, is_told, is_told_by_server}
 use Rattle.arj_law_cause.specs.kinds.Rows.{tested}
-use Rattle.arj_law_cause.specs.kinds.Tests.{is_copy_so, is_entry_so, is_told_so}
-use Rattle.arj_cause_tests.proofs.Words.{Run, Wrote, instead, lacking_from, nodes, object_line, run, u}
-use Rattle.arj_cause_tests.proofs.Worked.{conflict, exclusion, nested_abort, rebinding}
+use Rattle.arj_law_cause.specs.kinds.Tests.{is_copy_so, is_entry_so, is_told_caused, is_told_so}
+use Rattle.arj_cause_tests.proofs.Words.{Run, Wrote, after, instead, lacking_from, nodes, object_line, run, u}
+use Rattle.arj_cause_tests.proofs.Worked.{conflict, exclusion, lost_lock, nested_abort, rebinding}
 
 -- the places of those lines of an event that don't pass a test, from 1
 abbrev failing_in : (Here → Body → Bool) → Here → List Body → List ℕ
@@ -41,6 +43,14 @@ copies = failing is_copy_so is_copy_shown
 
 abbrev tolds : Run → List ℕ
 tolds = failing is_told_so is_told fresh
+
+-- ends that servers say they were told, without their cause
+abbrev served : Run → List ℕ
+served = failing is_told_caused is_told_by_server fresh
+
+-- aborts that are done without their cause
+abbrev undone : Run → List ℕ
+undone = failing has_cause is_abort_done fresh
 
 -- ---- a run that goes on: object 1 has its fourth entry, and stores hold its sixth state
 
@@ -117,3 +127,23 @@ told_commit = refl
 
 told_abort : tolds (instead 12 (body.Told 1 (u 1 1 1) Abort part.Server) nested_abort) ≡ 12 ∷ []
 told_abort = refl
+
+undone_so : undone nested_abort ++ (undone conflict ++ (undone exclusion ++ undone rebinding)) ≡ []
+undone_so = refl
+
+undone_open : undone (after 17 (body.Done 2 (u 1 1 1) role.Store Abort ∷ []) exclusion) ≡ 18 ∷ []
+undone_open = refl
+
+undone_committed : undone (instead 31 (body.Done 2 (u 1 1 1) role.Store Abort) exclusion) ≡ 31 ∷ []
+undone_committed = refl
+
+served_so : served nested_abort ++ (served conflict ++ (served exclusion ++ (served rebinding ++ served lost_lock))) ≡ []
+served_so = refl
+
+-- no lock is left there
+served_nothing : served (after 26 (body.Told 2 (u 1 1 1) Abort part.Server ∷ []) lost_lock) ≡ 27 ∷ []
+served_nothing = refl
+
+-- and where it stands, its action open, no later one has a lock
+served_open : served (instead 12 (body.Told 1 (u 1 1 1) Abort part.Server) nested_abort) ≡ 12 ∷ 19 ∷ []
+served_open = refl

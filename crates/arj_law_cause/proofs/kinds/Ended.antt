@@ -198,7 +198,7 @@ or_none : (b : Body) → is_steady b ≡ true → begun_of b ≡ None
 or_none (body.Began l k u p) is = absurd (cc is)
 or_none b is = refl
 
-over_map : (K L : Uid → Type 0) → ((u : Uid) → K u → L u) → (b : Body) → IsOver K b → IsOver L b
+pub over_map : (K L : Uid → Type 0) → ((u : Uid) → K u → L u) → (b : Body) → IsOver K b → IsOver L b
 over_map K L to (body.Told n u ending.Abort p) its = to u its
 over_map K L to (body.Done n u r ending.Abort) its = to u its
 over_map K L to b its = tt

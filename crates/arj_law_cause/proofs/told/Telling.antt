@@ -10,6 +10,7 @@ use Rattle.arj_law_cause.proofs.kinds.Limit.{limit_row}
 use Rattle.arj_law_cause.proofs.kinds.Openings.{opening_row}
 use Rattle.arj_law_cause.proofs.kinds.Quiet.{quiet_row}
 use Rattle.arj_law_cause.proofs.kinds.Recovered.{found_row}
+use Rattle.arj_law_cause.proofs.kinds.Served.{served_row}
 use Rattle.arj_law_cause.proofs.kinds.Shown.{copy_row, entry_row}
 use Rattle.arj_law_cause.proofs.kinds.Up.{up_row}
 use Rattle.arj_law_cause.proofs.told.Joined.{journals_follow}
@@ -37,6 +38,7 @@ module _ (hd : Header) (r : Run hd) (form : IsInForm hd r) where
     done = done_row hd r form;
     undone = abort_row hd r form;
     told = told_row hd r form;
+    served = served_row hd r form;
   }
 
   world_told : TellsWorld hd r.start (run_events hd r) (journal_by hd r)

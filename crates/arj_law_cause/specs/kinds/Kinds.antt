@@ -2,6 +2,7 @@
 use Rattle.std.specs.Prelude.{Bool, true, false}
 use Rattle.arj_journal.specs.declared.body.Body.{Body}
 use Rattle.arj_journal.specs.declared.body.Body.TheVariants as body
+use Rattle.arj_journal.specs.declared.body.Part.TheVariants as part
 use Rattle.arj_journal.specs.declared.body.Cause.TheVariants as cause
 use Rattle.arj_base.specs.declared.mode.End.TheVariants as ending
 use Rattle.arj_model.specs.CauseSpans.{Here}
@@ -84,6 +85,11 @@ is_abort_done _ = false
 abbrev pub is_told : Body → Bool
 is_told (body.Told n u e p) = true
 is_told _ = false
+
+-- a server was told of one
+abbrev pub is_told_by_server : Body → Bool
+is_told_by_server (body.Told n u e part.Server) = true
+is_told_by_server _ = false
 
 -- the line shows an object's entry
 abbrev pub is_entry_shown : Body → Bool

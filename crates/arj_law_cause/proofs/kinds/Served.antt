@@ -1,0 +1,388 @@
+-- The row of servers' ends, but in a restart: where a server says that it was told, a lock of the action or of one below it is in the table
+-- of its node, and the action ended so.
+use Rattle.arj_law_parts.proofs.Words
+use Words.{⊤, ◌≡◌, ◌≤◌, ◌⊎◌, ◌∙◌, ◌==◌, ◌&&◌, ◌||◌, ◌++◌, ◌+◌, not, ℕ, Bool, true, false, if◌then◌else◌, List, [], ◌∷◌, length, Some, None}
+use Words.{refl, sym, ap, subst, arith, inl, inr, ⊎_elim, and_parts, list_all, list_any, AllByRecursion, Contains, In, in_from, in_to, is_on}
+use Words.{uid_eq, nobody, Body, End, Event, Header, Line, Message, Start, Uid, Disk, Do, Effect, Say, Send, Handled, Parts}
+use Words.{Took, Void, handle, holders, query_about, AreAll, is_coord_effect, is_coord_line, acts as does, acts_own, again_all}
+use Words.{again_own, all_both, begin_action, parent_of, restart_outs, tick_outs, tolds_again, tolds_again_own, World, Arm}
+use Words.{Seen, run_event, numbered, map}
+use Words.body
+use Words.ending
+use Words.input
+use Words.part
+use Rattle.arj_law_parts.proofs.moves.Happens.{Wide, arms_hold, wide_steps}
+use Rattle.arj_law_parts.proofs.steps.Still.{Still, outs_of, says_still, taken_good}
+use Rattle.arj_law_parts.specs.moves.Moments.{Moment, up}
+use Rattle.arj_law_parts.specs.moves.Seen.{is_quiet_line}
+use Rattle.arj_law_parts.specs.moves.Seen as seen
+use Rattle.arj_law_parts.specs.parts.Ends.{brought, told_by}
+use Rattle.arj_law_parts.specs.steps.Spoken.{SaidIn}
+use Rattle.arj_law_runs.proofs.kept.Walked.{same_number}
+use Rattle.arj_law_runs.specs.follow.Frames.{are_so, run_events}
+use Rattle.arj_law_serial.proofs.Terms.{ShowsLocks, is_steady, memory_of, up_from, up_of}
+use Rattle.arj_law_serial.proofs.holding.{Events.IsShown, Events.event_shown, Events.first_is_shown, Events.later_off, Facts.on_path}
+use Rattle.arj_law_serial.proofs.holding.{Facts.someone, Lines.Since, Lines.since_all, Lines.ups_on, Messages.coord_or_steady}
+use Rattle.arj_law_serial.proofs.holding.Running.{Showing, showing_kept}
+use Rattle.arj_law_serial.proofs.holding.Says as saying
+use Rattle.arj_law_serial.specs.past.Told.{ArePastIn, IsPast, SaysPast, ToldPast, live_in}
+use Rattle.arj_model.specs.Actions.{begun_of}
+use Rattle.arj_model.specs.CauseLocks.{has_end_of, is_restart}
+use Rattle.arj_model.specs.CauseSpans.{Here, act_by, behind, here_at, holds_in}
+use Rattle.arj_model.specs.Follows.{Runs}
+use Rattle.arj_model.specs.Past.{Along, Past, at_start, next}
+use Rattle.arj_model.specs.Table.{is_in_part, table}
+use Rattle.arj_promise.specs.Runs.{journal_by}
+use Rattle.arj_law_cause.proofs.rows.Running.{Base, steps_both}
+use Rattle.arj_law_cause.proofs.kinds.Aborts.{is_over_by}
+use Rattle.arj_law_cause.proofs.kinds.Committed.{IsDecided, committed_so, decided_line, right_lines}
+use Rattle.arj_law_cause.proofs.kinds.Ended.{IsOver, Known, known_all, message_ends, over_map}
+use Rattle.arj_law_cause.proofs.kinds.Lines.{tested_row}
+use Rattle.arj_law_cause.proofs.kinds.Over.{Ends, ends_quiet, ends_say}
+use Rattle.arj_law_cause.proofs.kinds.Rowed.{HasRow, IsTableOf, Rowed, RowedBy, message_rowed}
+use Rattle.arj_law_cause.proofs.kinds.Running.{Knows, row_run}
+use Rattle.arj_law_cause.proofs.kinds.Walks as walks
+use Rattle.arj_law_cause.specs.kinds.Kinds.{is_told_by_server}
+use Rattle.arj_law_cause.specs.kinds.Rows.{TestHolds, TestedStep, tested}
+use Rattle.arj_law_cause.specs.kinds.Tests.{is_told_caused}
+
+-- ---- lines
+
+-- a line of a server's end, and one by which a node starts anew
+abbrev of : Body → Bool
+of (body.Told n u f part.Server) = true
+of (body.Up n i) = true
+of b = false
+
+-- the table has the row
+abbrev has_row : Here → ℕ → Uid → Bool
+has_row h n u = list_any (λ row. is_in_part part.Server row && is_on row.holder u) (table n h.lines)
+
+-- whoever is aborted is over, and the table has the row, but in a restart; and a node starts anew in one
+abbrev passes : Here → Body → Bool
+passes h (body.Told n u f part.Server) = is_over_by h (body.Told n u f part.Server) && (is_restart h.event || has_row h n u)
+passes h (body.Up n i) = is_restart h.event
+passes h b = true
+
+quiet : (b : Body) → is_quiet_line b ≡ true → of b ≡ false
+quiet (body.Told n u f p) is = absurd (cc is)
+quiet (body.Up n i) is = absurd (cc is)
+quiet b is = refl
+
+no_halt : (k : ℕ) → of (body.Halted k) ≡ false
+no_halt k = refl
+
+-- a line of no server's end
+abbrev is_free : Body → Bool
+is_free b = not (is_told_by_server b)
+
+coord_free : (b : Body) → is_coord_line b ≡ true → is_free b ≡ true
+coord_free (body.Told n u f p) is = absurd (cc is)
+coord_free b is = refl
+
+abbrev is_none : Body → Bool
+is_none b = not (of b)
+
+coord_none : (b : Body) → is_coord_line b ≡ true → is_none b ≡ true
+coord_none (body.Told n u f p) is = absurd (cc is)
+coord_none (body.Up n i) is = absurd (cc is)
+coord_none b is = refl
+
+-- ---- no node starts anew in an event that is no restart
+
+abbrev no_start : Body → Bool
+no_start (body.Up n i) = false
+no_start b = true
+
+no_starts : (g : Here) → is_restart g.event ≡ false → (bs : List Body) → are_so (tested passes (λ h. of)) g bs ≡ true →
+    list_all no_start bs ≡ true
+no_starts g other [] all = refl
+no_starts g other (b ∷ bs) all =
+    let p = and_parts (tested passes (λ h. of) g b) (are_so (tested passes (λ h. of)) (behind g b) bs) all in
+    λ i. one b p.0 i && no_starts (behind g b) other bs p.1 i
+  where
+    one : (b : Body) → tested passes (λ h. of) g b ≡ true → no_start b ≡ true
+    one (body.Up n i) is = absurd (cc (sym other ∙ is))
+    one b is = refl
+
+same_start : (n e up : ℕ) (bs : List Body) → list_all no_start bs ≡ true → up_from n up (numbered e bs) ≡ up
+same_start n e up [] all = refl
+same_start n e up (b ∷ bs) all =
+    let p = and_parts (no_start b) (list_all no_start bs) all in by b p.0 (same_start n e up bs p.1)
+  where
+    by : (b : Body) → no_start b ≡ true → up_from n up (numbered e bs) ≡ up → up_from n up (numbered e (b ∷ bs)) ≡ up
+    by (body.Up m i) is ih = absurd (cc is)
+    by b is ih = ih
+
+-- ---- ends of actions
+
+all_ends : (P : Uid → Type 0) (ends : List (Uid × End)) → ((u : Uid) (e : End) → Contains {X = Uid × End} ends (u, e) → P u) →
+    AllByRecursion (λ (e : Uid × End). P e.0) ends
+all_ends P [] each = tt
+all_ends P (e ∷ ends) each = (
+  each e.0 e.1 (in_to e (e ∷ ends) (inl refl)),
+  all_ends P ends (λ u f c. each u f (in_to (u, f) (e ∷ ends) (inr (in_from (u, f) ends c)))),
+)
+
+-- ---- what a node says at a message
+
+-- in a restart no row is asked for
+restart_rowed : (k e : ℕ) (es : List Effect) (ls : List Line) → Rowed true k e es ls
+restart_rowed k e [] ls = tt
+restart_rowed k e (Do w ∷ es) ls = restart_rowed k e es ls
+restart_rowed k e (Send to m ∷ es) ls = λ more are. restart_rowed k e es (ls ++ numbered e more)
+restart_rowed k e (Say b ∷ es) ls = (one b, restart_rowed k e es (ls ++ numbered e (b ∷ [])))
+  where
+    one : (b : Body) → HasRow true k e ls b
+    one (body.Told n u f part.Server) = refl
+    one b = tt
+
+module _ (hd : Header) (st : Start) (q : Past) (e : Event) (w : World) (shown : IsShown hd w) (lines_are : q.lines ≡ w.lines)
+    (count_is : q.count ≡ w.event) where
+  abbrev Number : ℕ
+  Number = w.event + 1
+
+  -- what is known in the event: tables show locks, but those of a node that starts anew in it
+  abbrev InIt : Moment → Type 0
+  InIt M = Known hd M × Wide (Showing hd (length w.lines) Number) M
+
+  abbrev Inside : Moment → Type 0
+  Inside = walks.Inside passes hd of quiet no_halt st q e
+
+  abbrev Well : List Effect → List Line → Type 0
+  Well es ls = walks.Well passes hd of quiet no_halt st q e es ls
+
+  abbrev at : List Line → Here
+  at ls = walks.here_behind passes hd of quiet no_halt st q e ls
+
+  none_well : (es : List Effect) (ls : List Line) → saying.All is_none es → Well es ls
+  none_well es ls all = walks.each_well passes hd of quiet no_halt st q e is_none (λ ms b is. λ i. is i || passes (at ms) b) es ls all
+
+  coord_effects : (es : List Effect) → AreAll is_coord_effect es → saying.All is_none es
+  coord_effects = saying.kind_says is_none is_coord_effect is_coord_line (λ b. refl) coord_none
+
+  one_passes : (k : ℕ) (ls : List Line) (b : Body) → says_still (Say b) ≡ true → IsOver (Ends ls) b →
+      HasRow (is_restart e) k (q.count + 1) ls b → tested passes (λ g. of) (at ls) b ≡ true
+  one_passes k ls (body.Up n i) still over row = absurd (cc still)
+  one_passes k ls (body.Told n u ending.Abort part.Server) still over row = λ i. over i && row i
+  one_passes k ls (body.Told n u ending.Commit part.Server) still over row = row
+  one_passes k ls b still over row = refl
+
+  begins_none : (b : Body) → is_steady b ≡ true → begun_of b ≡ None
+  begins_none (body.Began l k u p) is = absurd (cc is)
+  begins_none b is = refl
+
+  served_well : (k : ℕ) (K : Uid → Type 0) (es : List Effect) (ls : List Line) → AllByRecursion (SaidIn (IsOver K)) es →
+      saying.All is_steady es → Still es → Rowed (is_restart e) k (q.count + 1) es ls → ((u : Uid) → K u → Ends ls u) → Well es ls
+  served_well k K [] ls all steady still rows ends = tt
+  served_well k K (Do x ∷ es) ls all steady still rows ends = served_well k K es ls all.1 steady
+      (and_parts (says_still (Do x)) (list_all says_still es) still).1 rows ends
+  served_well k K (Say b ∷ es) ls all steady still rows ends =
+      let p = and_parts (is_steady b) (list_all (saying.says is_steady) es) steady in
+      let s = and_parts (says_still (Say b)) (list_all says_still es) still in (
+        one_passes k ls b s.0 (over_map K (Ends ls) ends b all.0) rows.0,
+        served_well k K es (ls ++ numbered (q.count + 1) (b ∷ [])) all.1 p.1 s.1 rows.1
+            (λ u its. ends_say ls (q.count + 1) b u (begins_none b p.0) (ends u its)),
+      )
+  served_well k K (Send to m ∷ es) ls all steady still rows ends = λ more are. served_well k K es (ls ++ numbered (q.count + 1) more) all.1
+      steady (and_parts (says_still (Send to m)) (list_all says_still es) still).1 (rows more are)
+      (λ u its. ends_quiet ls (q.count + 1) more u are (ends u its))
+
+  -- tables show the locks of a node that takes a message, but in a restart
+  module _ (k : ℕ) (d : Disk) (t : Parts) (M : Moment) (known : InIt (up k d t M)) (h : Inside M) where
+    lines_now : M.seen.lines ≡ w.lines ++ numbered Number h.wrote
+    lines_now = h.lines ∙ (λ i. lines_are i ++ numbered (count_is i + 1) h.wrote)
+
+    here : memory_of ((up k d t M).seen.nodes k) ≡ Some t
+    here = λ i. memory_of (if same_number k i then Some (record { number = k; disk = d; live = Some t }) else M.seen.nodes k)
+
+    start_off : is_restart e ≡ false → (Number == up_of k M.seen.lines) ≡ false
+    start_off other =
+        let none = no_starts (walks.first_here passes hd of quiet no_halt st q e) other h.wrote h.fit in
+        ap (λ n. Number == n) (ap (up_of k) lines_now ∙ ups_on k 0 w.lines (numbered Number h.wrote)
+        ∙ same_start k Number (up_of k w.lines) h.wrote none)
+        ∙ later_off (up_of k w.lines) w.event (shown.early k)
+
+    shown_now : is_restart e ≡ false → IsTableOf false k (q.count + 1) t.server M.seen.lines
+    shown_now other x =
+        let z = known.1.2.2 in
+        let s : ShowsLocks k M.seen.lines (memory_of ((up k d t M).seen.nodes k)) = z.shown
+        (subst (Since Number (length w.lines)) (sym lines_now) (since_all Number h.wrote w.lines)) k (start_off other) in
+        (let r : ShowsLocks k M.seen.lines (Some t) = subst (ShowsLocks k M.seen.lines) here s in r.server x)
+
+    rowed : (v : Parts) (from : ℕ) (m : Message) (outs : List Effect) →
+        seen.In (record { from = from; to = k; message = m }) M.seen.sent → handle k d t from m ≡ Took v outs →
+        (b : Bool) → is_restart e ≡ b → Rowed b k (q.count + 1) outs M.seen.lines
+    rowed v from m outs there is true restarts = restart_rowed k (q.count + 1) outs M.seen.lines
+    rowed v from m outs there is false other =
+        subst (λ z. RowedBy false k (q.count + 1) z M.seen.lines) is
+        (message_rowed false k (q.count + 1) d t from M.seen.lines told.keys (shown_now other) m
+        (all_ends (λ u. uid_eq nobody u ≡ false) (brought m) (λ u f c. of_past u (says.brings u f c)))
+        (all_ends (λ u. uid_eq nobody u ≡ false) (told_by m) (λ u f c. of_past u (says.told u f c))))
+      where
+        base : Wide (Showing hd 0 0) (up k d t M)
+        base = known.0.1
+
+        S : Seen
+        S = seen.with_sent base.0 (let N = up k d t M in N.seen)
+
+        past : ArePastIn base.2.0 S
+        past = base.2.1.1.0.0
+
+        says : SaysPast base.2.0 (λ j. live_in (S.nodes j)) (record { from = from; to = k; message = m })
+        says = past.posts (record { from = from; to = k; message = m }) (base.1 (record { from = from; to = k; message = m }) there)
+
+        told : ToldPast base.2.0 (λ j. live_in (S.nodes j)) k t
+        told = (let n = past.nodes k (record { number = k; disk = d; live = Some t })
+            (λ i. if same_number k i then Some (record { number = k; disk = d; live = Some t }) else M.seen.nodes k) in n.live t refl)
+
+        of_past : (u : Uid) → IsPast base.2.0 (λ j. live_in (S.nodes j)) u → uid_eq nobody u ≡ false
+        of_past u past =
+            let good = base.2.1.0.1.0 in
+            someone u (on_path base.2.0 good.begun base.2.1.1.0.1 past.0.0 (in_from past.0.0 base.2.0 past.0.1) u past.0.2)
+
+  well : walks.SaysWell passes hd of quiet no_halt st q e InIt
+  well = record {
+    message = λ k d t v from m outs M known h there meant may is.
+        let r = message_ends hd k d t v from m outs M known.0 there is in
+        ⊎_elim {C = Well outs M.seen.lines} (λ own. none_well outs M.seen.lines (coord_effects outs own))
+        (λ steady. served_well k (Ends M.seen.lines) outs M.seen.lines r.1 steady
+        (subst (λ (x : Handled). Still (outs_of x)) ((λ i. if meant i then handle k d t from m else Void []) ∙ is) (taken_good k d t from m))
+        (rowed k d t M known h v from m outs there is (is_restart e) refl) (λ u its. its))
+        (coord_or_steady k d t v r.0 from m outs is);
+    act = λ k d t i M is brings fresh asks free known h. none_well (does i d.intents t.coord).outs M.seen.lines
+        (coord_effects (does i d.intents t.coord).outs (acts_own i d.intents t.coord));
+    begin = λ k d t l how parent M brings fresh new gives none known h.
+        let did = begin_action l how parent (parent_of parent t.coord) t.coord in
+        none_well did.outs M.seen.lines (coord_effects did.outs (acts_own (input.Begin l how parent) d.intents t.coord));
+    tick = λ k d t M known h.
+        let r = again_all t.coord.doings t.coord in
+        none_well (tick_outs (record { number = k; disk = d; live = Some t }) t) M.seen.lines
+        (all_both (saying.says is_none) (r.outs ++ tolds_again t.coord.telling) (map query_about (holders d t))
+        (all_both (saying.says is_none) r.outs (tolds_again t.coord.telling) (coord_effects r.outs (again_own t.coord.doings t.coord))
+        (coord_effects (tolds_again t.coord.telling) (tolds_again_own t.coord.telling)))
+        (saying.map_says is_none query_about (holders d t) (λ u. refl)));
+    restart = λ k d M its fresh known h.
+        let restarts : is_restart e ≡ true = ap is_restart (sym h.event ∙ its) in
+        walks.each_well passes hd of quiet no_halt st q e is_free (λ ms b is. in_restart restarts ms b is) (restart_outs hd k (d.inc + 1) d)
+        M.seen.lines (saying.restart_says is_free hd k (d.inc + 1) d coord_free (λ is u o how. refl) (λ u. refl) refl);
+  }
+    where
+      in_restart : is_restart e ≡ true → (ms : List Line) (b : Body) → is_free b ≡ true → tested passes (λ g. of) (at ms) b ≡ true
+      in_restart restarts ms (body.Told n u f part.Server) is = absurd (cc is)
+      in_restart restarts ms (body.Up n i) is = restarts
+      in_restart restarts ms b is = refl
+
+-- ---- runs
+
+-- which stops are to fall is nothing to it
+armed_shown : (hd : Header) (w : World) (arms : List (ℕ × Arm)) → IsShown hd w → IsShown hd (record w { arms = arms })
+armed_shown hd w arms h = record { known = arms_hold hd Base arms w h.known; shown = h.shown; early = h.early }
+
+least : (n : ℕ) → n ≤ n
+least n = omega arith
+
+-- what is known of worlds: tables show locks between events
+abbrev shown_knows : (hd : Header) → Knows hd (Known hd)
+shown_knows hd = record {
+  Between = IsShown hd;
+  In = λ w M. Known hd M × Wide (Showing hd (length w.lines) (w.event + 1)) M;
+  first = λ st formed. first_is_shown hd st formed;
+  next = λ m w h. armed_shown hd (run_event m.asked (record w { arms = m.falls })) []
+      (event_shown hd (record w { arms = m.falls }) (armed_shown hd w m.falls h) m.asked);
+  arms = λ w arms h. armed_shown hd w arms h;
+  opens = λ w e g sent b c. (
+    c,
+    (
+      c.1.0,
+      c.1.1,
+      (
+        c.1.2.0,
+        c.1.2.1,
+        record {
+          long = least (length w.lines);
+          shown = λ since n off. b.shown n;
+        },
+      ),
+    ),
+  );
+  steps = λ w b. steps_both hd (Known hd) (Wide (Showing hd (length w.lines) (w.event + 1))) (let k = known_all hd in k.steps)
+      (wide_steps hd ⊤ (Showing hd (length w.lines) (w.event + 1)) (showing_kept hd (length w.lines) (w.event + 1) ⊤ tt));
+  back = λ w M c. c.0;
+}
+
+-- lines of fewer kinds
+fewer_so : (test : Here → Body → Bool) (all some : Body → Bool) → ((b : Body) → some b ≡ true → all b ≡ true) → (h : Here) (bs : List Body) →
+    are_so (tested test (λ g. all)) h bs ≡ true → are_so (tested test (λ g. some)) h bs ≡ true
+fewer_so test all some to h [] passed = refl
+fewer_so test all some to h (b ∷ bs) passed =
+    let p = and_parts (tested test (λ g. all) h b) (are_so (tested test (λ g. all)) (behind h b) bs) passed in
+    λ i. one (some b) refl p.0 i && fewer_so test all some to (behind h b) bs p.1 i
+  where
+    one : (x : Bool) → some b ≡ x → (not (all b) || test h b) ≡ true → (not x || test h b) ≡ true
+    one false other passed = refl
+    one true its passed = (λ i. not (sym (to b its) i) || test h b) ∙ passed
+
+fewer_along : (test : Here → Body → Bool) (all some : Body → Bool) → ((b : Body) → some b ≡ true → all b ≡ true) → (hd : Header) →
+    (es : List Event) (p end : Past) → Along (TestedStep test (λ h. all) hd) p es end → Along (TestedStep test (λ h. some) hd) p es end
+fewer_along test all some to hd [] p end a = a
+fewer_along test all some to hd (e ∷ es) p end a =
+    (a.0, fewer_so test all some to (here_at hd p e a.0) a.0 a.1, fewer_along test all some to hd es (next p e a.0) end a.2)
+
+-- what is so of a line of these kinds: nothing is asked of one by which a node starts anew
+abbrev told_or_starts : Here → Body → Bool
+told_or_starts h (body.Up n i) = true
+told_or_starts h b = is_told_caused h b
+
+either_so : (r over row its : Bool) → (over && (r || row)) ≡ true → (over ≡ true → its ≡ true) → (r || (row && its)) ≡ true
+either_so true over row its is to = refl
+either_so false true true its is to = to refl
+either_so false true false its is to = absurd (cc is)
+either_so false false row its is to = absurd (cc is)
+
+to_cause : (h : Here) (b : Body) → of b ≡ true → IsDecided h.lines b → passes h b ≡ true → told_or_starts h b ≡ true
+to_cause h (body.Told n u ending.Abort part.Server) its k is = either_so (is_restart h.event)
+    (is_over_by h (body.Told n u ending.Abort part.Server)) (has_row h n u)
+    (holds_in (λ a. has_end_of h.lines a ending.Abort) (act_by h.lines u)) is (λ over. over)
+to_cause h (body.Told n u ending.Commit part.Server) its k is = either_so (is_restart h.event) true (has_row h n u)
+    (holds_in (λ a. has_end_of h.lines a ending.Commit) (act_by h.lines u)) is
+    (λ over. committed_so h u k.distinct k.caused)
+to_cause h (body.Up n i) its k is = refl
+to_cause h b its k is = absurd (cc its)
+
+server_told : (b : Body) → is_told_by_server b ≡ true → of b ≡ true
+server_told (body.Told n u f part.Server) is = refl
+server_told b is = absurd (cc is)
+
+told_so : (h : Here) (bs : List Body) → are_so (tested told_or_starts (λ g. is_told_by_server)) h bs ≡ true →
+    are_so (tested is_told_caused (λ g. is_told_by_server)) h bs ≡ true
+told_so h [] all = refl
+told_so h (b ∷ bs) all =
+    let p = and_parts (tested told_or_starts (λ g. is_told_by_server) h b) (are_so (tested told_or_starts (λ g. is_told_by_server)) (behind h b) bs)
+    all in λ i. one b p.0 i && told_so (behind h b) bs p.1 i
+  where
+    one : (b : Body) → tested told_or_starts (λ g. is_told_by_server) h b ≡ true → tested is_told_caused (λ g. is_told_by_server) h b ≡ true
+    one (body.Up n i) is = refl
+    one b is = is
+
+told_along : (hd : Header) (es : List Event) (p end : Past) → Along (TestedStep told_or_starts (λ h. is_told_by_server) hd) p es end →
+    Along (TestedStep is_told_caused (λ h. is_told_by_server) hd) p es end
+told_along hd [] p end a = a
+told_along hd (e ∷ es) p end a = (a.0, told_so (here_at hd p e a.0) a.0 a.1, told_along hd es (next p e a.0) end a.2)
+
+pub served_row : TestHolds is_told_caused is_told_by_server
+served_row hd r form =
+    let lines = journal_by hd r in
+    let keeps = known_all hd in
+    let runs : Runs (TestedStep told_or_starts (λ h. of) hd) r.start (run_events hd r) lines =
+    tested_row IsDecided of passes told_or_starts to_cause lines (decided_line lines (right_lines hd r))
+    hd r.start (run_events hd r)
+    (row_run passes of quiet no_halt hd (Known hd) keeps (shown_knows hd)
+    (λ st q e w between lines count. well hd st q e w between lines count) r form) in (
+      runs.0,
+      runs.1,
+      told_along hd (run_events hd r) (at_start r.start) runs.0
+          (fewer_along told_or_starts of is_told_by_server server_told hd (run_events hd r) (at_start r.start) runs.0 runs.2),
+      runs.3,
+      runs.4,
+    )
