@@ -1,10 +1,9 @@
 -- Each line of a run is in form, but for those of open kinds: by what is said of its kind.
 use Rattle.arj_law_parts.proofs.Words
-use Words.{◌≡◌, ◌||◌, Bool, true, false, List, [], ◌∷◌, refl, subst, AllByRecursion, uid_eq, uid_is, Body, Header, Line, Uid}
+use Words.{◌⊎◌, inl, inr, arith, sym, ◌≡◌, ◌||◌, Bool, true, false, List, [], ◌∷◌, refl, subst, AllByRecursion, uid_eq, uid_is, Body, Header, Line, Uid}
 use Words.body
 use Words.cause
-use Words.ending
-use Rattle.arj_base.specs.Uid.{UidFits}
+use Rattle.arj_base.specs.Uid.{UidFits, nobody}
 use Rattle.arj_journal.specs.LineForm.{BodyInForm, LineInForm}
 use Rattle.arj_journal.specs.ScriptForm.{HeaderInForm}
 use Rattle.arj_law_parts.specs.steps.Spoken.{is_of_parts}
@@ -18,7 +17,7 @@ use Rattle.arj_law_runs.specs.forms.World.{IsSaidInForm}
 use Rattle.arj_law_runs.specs.journal.Right.{has_act}
 use Rattle.arj_model.specs.Actions.{Act, acts, acts_after, acts_from}
 use Rattle.arj_promise.specs.Runs.{journal_by}
-use Rattle.arj_law_cause.proofs.forms.Objects.{Began, LineSo, runs_name_such}
+use Rattle.arj_law_cause.proofs.forms.Objects.{LineSo, Such, runs_name_such}
 use Rattle.arj_law_cause.proofs.forms.Ups.{IsUpInForm, runs_say_ups}
 use Rattle.arj_law_cause.specs.form.Form.{RunsAreInForm, is_open}
 
@@ -47,15 +46,19 @@ began_fits (a ∷ xs) u all is = by (uid_eq a.uid u) refl is (began_fits xs u al
     by true same here rest = subst UidFits (uid_is a.uid u same) all.0
     by false other later rest = rest later
 
+such_fits : (xs : List Act) → AllByRecursion ActFits xs → (u : Uid) → (has_act xs u ≡ true) ⊎ (u ≡ nobody) → UidFits u
+such_fits xs all u (inl began) = began_fits xs u all began
+such_fits xs all u (inr is) = subst UidFits (sym is) (omega arith, omega arith, omega arith)
+
 -- ---- lines
 
-module _ (hd : Header) (form : HeaderInForm hd) (all : List Line) (fit : (u : Uid) → Began all u → UidFits u) where
+module _ (hd : Header) (form : HeaderInForm hd) (all : List Line) (fit : (u : Uid) → Such all u → UidFits u) where
   body_form : (b : Body) → (is_of_parts b ≡ false → BodyInForm b) → LabelsInForm b → SaysOf (IsNode hd) b →
       (is_of_action b ≡ true → BodyInForm b) → IsUpInForm hd b → LineSo all b → is_open b ≡ false → BodyInForm b
   body_form (body.Began l k u p) world labels node action up names is = action refl
   body_form (body.Ok l x op a) world labels node action up names is = absurd (cc is)
   body_form (body.Includes l x n) world labels node action up names is = (labels, names.0, node_form hd form n node)
-  body_form (body.Conflict l u m n) world labels node action up names is = absurd (cc is)
+  body_form (body.Conflict l u m n) world labels node action up names is = (labels, fit u names.0, node_form hd form n node)
   body_form (body.Lost l n) world labels node action up names is = (labels, node_form hd form n node)
   body_form (body.Changed l n d) world labels node action up names is = absurd (cc is)
   body_form (body.Committing l) world labels node action up names is = labels
@@ -66,7 +69,8 @@ module _ (hd : Header) (form : HeaderInForm hd) (all : List Line) (fit : (u : Ui
   body_form (body.Aborted l (cause.Lost n)) world labels node action up names is = (labels, node_form hd form n node)
   body_form (body.Aborted l (cause.NoStores x)) world labels node action up names is = (labels, names.0)
   body_form (body.Aborted l (cause.Listed x n)) world labels node action up names is = (labels, names.0)
-  body_form (body.Aborted l (cause.Conflict u m n)) world labels node action up names is = absurd (cc is)
+  body_form (body.Aborted l (cause.Conflict u m n)) world labels node action up names is =
+      (labels, (fit u names.0, node_form hd form n node))
   body_form (body.Aborted l (cause.Changed n d)) world labels node action up names is = absurd (cc is)
   body_form (body.Aborted l (cause.Old n x v)) world labels node action up names is = absurd (cc is)
   body_form (body.GaveUp l n) world labels node action up names is = (labels, node_form hd form n node)
@@ -77,8 +81,7 @@ module _ (hd : Header) (form : HeaderInForm hd) (all : List Line) (fit : (u : Ui
       let r = names.1 in (node_form hd form n node, fit u r.0, r.1)
   body_form (body.Bound x b n) world labels node action up names is = absurd (cc is)
   body_form (body.Active n x b) world labels node action up names is = absurd (cc is)
-  body_form (body.Told n u ending.Commit p) world labels node action up names is = action refl
-  body_form (body.Told n u ending.Abort p) world labels node action up names is = absurd (cc is)
+  body_form (body.Told n u e p) world labels node action up names is = (node_form hd form n node, fit u names.1)
   body_form (body.Prepared n u r) world labels node action up names is = (node_form hd form n node, fit u names.1)
   body_form (body.Done n u r e) world labels node action up names is = (node_form hd form n node, fit u names.1)
   body_form (body.Up n i) world labels node action up names is = (node_form hd form n node, up node)
@@ -102,6 +105,6 @@ pub runs_are_in_form : RunsAreInForm
 runs_are_in_form hd r form has =
     let actions = runs_say_actions hd r form has in
     lines_form hd form.header (journal_by hd r)
-    (λ u began. began_fits (acts (journal_by hd r)) u (acts_fit [] (journal_by hd r) tt actions) began) (journal_by hd r)
+    (such_fits (acts (journal_by hd r)) (acts_fit [] (journal_by hd r) tt actions)) (journal_by hd r)
     (runs_say_in_form hd r form) (runs_say_labels hd r form) (lines_name hd form.header r) actions (runs_say_ups hd r form has)
     (runs_name_such hd form.header r)

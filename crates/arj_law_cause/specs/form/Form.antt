@@ -1,7 +1,6 @@
 -- Which lines of a journal are in form, and of which kinds it isn't shown.
 use Rattle.std.specs.Prelude.{◌≡◌, Bool, true, false, List}
 use Rattle.std.specs.List.{AllByRecursion}
-use Rattle.arj_base.specs.declared.mode.End.TheVariants as ending
 use Rattle.arj_journal.specs.LineForm.{LineInForm}
 use Rattle.arj_journal.specs.declared.body.Body.{Body}
 use Rattle.arj_journal.specs.declared.body.Body.TheVariants as body
@@ -11,17 +10,14 @@ use Rattle.arj_journal.specs.declared.header.Header.{Header}
 use Rattle.arj_law_promise.specs.rooms.Actions.{HasIncs}
 use Rattle.arj_promise.specs.Runs.{IsInForm, Run, journal_by}
 
--- Kinds of lines of which it isn't shown that each is in form. They say a Uid, a binding, an answer, a version or bytes.
+-- Kinds of lines of which it isn't shown that each is in form. They say an answer, a binding, an incarnation that was, a version or bytes.
 abbrev pub is_open : Body → Bool
 is_open (body.Ok l x op answer) = true
-is_open (body.Conflict l holder mode n) = true
 is_open (body.Changed l n d) = true
-is_open (body.Aborted l (cause.Conflict holder mode n)) = true
 is_open (body.Aborted l (cause.Changed n d)) = true
 is_open (body.Aborted l (cause.Old n x version)) = true
 is_open (body.Bound x b n) = true
 is_open (body.Active n x b) = true
-is_open (body.Told n u ending.Abort part) = true
 is_open (body.Entry x v servers stores) = true
 is_open (body.Copy n x v u payload) = true
 is_open b = false
