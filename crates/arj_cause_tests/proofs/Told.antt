@@ -1,5 +1,6 @@
--- What each field of a journal's causes refuses: a line of an event behind those before it, and lines of whole runs that are changed.
-use Rattle.std.specs.Prelude.{◌≡◌, refl, ℕ, ◌+◌, List, [], ◌∷◌, ◌++◌, length, Bool, codes, if◌then◌else◌}
+-- What each field of a journal's causes, and of its form, refuses: a line of an event behind those before it, and lines of whole runs that are changed.
+use Rattle.std.specs.Prelude.{◌≡◌, ◌<◌, ◌^◌, refl, ℕ, ◌+◌, List, [], ◌∷◌, ◌++◌, length, Bool, codes, if◌then◌else◌}
+use Rattle.std.proofs.Common.{arith}
 use Rattle.arj_base.specs.declared.mode.Mode.TheVariants.{Exclude}
 use Rattle.arj_base.specs.declared.mode.End.TheVariants.{Abort, Commit}
 use Rattle.arj_class.specs.declared.op.Op.TheVariants as op
@@ -14,6 +15,7 @@ use Rattle.arj_journal.specs.declared.event.Event.TheVariants as event
 use Rattle.arj_journal.specs.declared.header.Header.{Header}
 use Rattle.arj_model.specs.CauseSpans.{Here, behind, here_at}
 use Rattle.arj_model.specs.Past.{Past, next, nothing_yet}
+use Rattle.arj_law_cause.specs.form.Form.{AreInForm}
 use Rattle.arj_law_cause.specs.kinds.Kinds.{is_abort_done, is_armed, is_commit_done, is_copy_shown, is_dropped, is_entry_shown}
 use Rattle.arj_law_cause.specs.kinds.Kinds.{is_found, is_got, is_halted, is_limit, is_opening, is_quiet, is_sent, is_told}
 use Rattle.arj_law_cause.specs.kinds.Kinds.{is_up, is_void}
@@ -149,3 +151,9 @@ shown_elsewhere = refl
 -- `copies`: another version than the last one
 copies : failing (tested is_copy_so (λ h. is_copy_shown)) (instead 36 (body.Copy 2 1 2 (u 1 1 1) (0 ∷ 0 ∷ 0 ∷ 0 ∷ 0 ∷ 0 ∷ 0 ∷ 1 ∷ [])) exclusion) ≡ 36 ∷ []
 copies = refl
+
+-- ---- lines in form
+
+-- an incarnation that has no 32 bits isn't in form
+too_great : AreInForm (record { event = 1; body = body.Up 1 4294967296 } ∷ []) → ⊥
+too_great all = let f = all.0 refl in let less : 4294967296 < 2 ^ 32 = f.1.1 in omega (arith, less)
