@@ -31,3 +31,4 @@ pub mod Held
 pub mod Shown
 pub mod Rowed
 pub mod Served
+pub mod Denied

@@ -1,5 +1,5 @@
 // Rows of causes: lines of the world, and what nodes do.
-ghost use Rattle.arj_law_cause.specs.kinds.Kinds.{is_abort_done, is_armed, is_commit_done, is_copy_shown, is_dropped, is_entry_shown, is_found, is_got, is_halted, is_limit, is_opening, is_plain_refusal, is_quiet, is_sent, is_told, is_told_by_server, is_up, is_void};
+ghost use Rattle.arj_law_cause.specs.kinds.Kinds.{is_abort_done, is_armed, is_commit_done, is_copy_shown, is_denial, is_dropped, is_entry_shown, is_found, is_got, is_halted, is_limit, is_opening, is_plain_refusal, is_quiet, is_sent, is_told, is_told_by_server, is_up, is_void};
 ghost use Rattle.arj_law_cause.specs.kinds.Rows.{RowHolds, RowHoldsWhere, TestHolds};
 ghost use Rattle.arj_law_cause.specs.kinds.Tests.{is_copy_so, is_entry_so, is_told_caused, is_told_so};
 
@@ -82,4 +82,10 @@ pub fn shows_have_causes()
 /// table of its node, and the action ended so. It does nothing when it runs.
 pub fn told_servers_have_causes()
     ensures told { TestHolds is_told_caused is_told_by_server }
+{}
+
+/// In every such run an event that is refused has the cause of its number, the lowest one that it has by the journal, or, where that has a
+/// number above 12, its action is doomed; and so is the action of a commit that was aborted as doomed. It does nothing when it runs.
+pub fn denials_have_causes()
+    ensures denied { RowHolds is_denial }
 {}

@@ -31,7 +31,7 @@ use Rattle.std.proofs.lemmas.List.{append_cancel_left}
 -- ---- 12 is no plain cause
 
 -- none of these numbers is it
-not_among : (c : ℕ) (rs : List (ℕ × Bool)) → list_all (λ (r : ℕ × Bool). not (r.0 == c)) rs ≡ true → first_cause rs ≡ Some c → ⊥
+pub not_among : (c : ℕ) (rs : List (ℕ × Bool)) → list_all (λ (r : ℕ × Bool). not (r.0 == c)) rs ≡ true → first_cause rs ≡ Some c → ⊥
 not_among c [] none is = let no_way : ◌≡◌ {A = Option ℕ} None (Some c) = is in cc no_way
 not_among c (r ∷ rs) none is = by r.1 is (not_among c rs p.1)
   where

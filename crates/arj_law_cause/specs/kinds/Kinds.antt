@@ -53,6 +53,12 @@ abbrev pub is_plain_refusal : Here → Body → Bool
 is_plain_refusal h (body.Refused c) = is_plain_cause h.event c
 is_plain_refusal h _ = false
 
+-- the event was refused, or the action that it commits was aborted as doomed
+abbrev pub is_denial : Body → Bool
+is_denial (body.Refused c) = true
+is_denial (body.Aborted l cause.Doomed) = true
+is_denial _ = false
+
 -- a commit was done, at a store or at naming
 abbrev pub is_commit_done : Body → Bool
 is_commit_done (body.Done n u r ending.Commit) = true
