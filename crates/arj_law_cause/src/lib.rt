@@ -4,13 +4,13 @@
 //! operation an answer is, `kinds/` lines of one kind with their causes, `spelled/` that what is sent can be spelled, `told/` all
 //! that a journal says of why it is so, put together, `form/` which lines are in form.
 //!
-//! What it gives upward: `journals_follow_their_events`, `journals_tell_their_causes`; `tree_refusals_follow`, `object_refusals_follow`,
-//! `refusals_follow`, `dooms_have_causes`, `lines_follow`; `waits_are_those_of_journals`,
+//! What it gives upward: `journals_follow_their_events`, `journals_tell_their_causes`; `tree_refusals_follow`,
+//! `object_refusals_follow`, `refusals_follow`, `dooms_have_causes`, `lines_follow`; `waits_are_those_of_journals`,
 //! `waiting_refusals_follow`, `answers_end_what_waits`, `commits_end_what_waits`, `giveups_lose_calls`; `conflicts_are_met`,
 //! `tables_agree_inside_events`, `answers_have_causes`, `answers_are_of_their_operations`; `frame_lines_have_causes`,
 //! `stops_have_causes`, `restarts_have_causes`, `limits_have_causes`, `openings_have_causes`, `plain_refusals_have_causes`,
-//! `denials_have_causes`, `commits_done_have_causes`, `quiesces_have_causes`, `recoveries_have_causes`, `ends_have_causes`, `shows_have_causes`,
-//! `told_servers_have_causes`; `messages_can_be_spelled`, `journals_are_in_form`.
+//! `denials_have_causes`, `commits_done_have_causes`, `quiesces_have_causes`, `recoveries_have_causes`, `ends_have_causes`,
+//! `shows_have_causes`, `told_servers_have_causes`; `messages_can_be_spelled`, `journals_are_in_form`.
 #![tactic(auto)]
 
 mod answers;

@@ -1,7 +1,9 @@
 -- The row of what is refused, and aborted as doomed: where an event writes what it may, both have their causes.
 use Rattle.arj_law_parts.proofs.Words
-use Words.{◌≡◌, ◌∙◌, ◌+◌, ◌-◌, ◌==◌, ◌&&◌, ◌||◌, ◌++◌, not, ℕ, Bool, true, false, cond, if◌then◌else◌, List, [], ◌∷◌, filter, inl, inr, ⊎_elim, refl, sym, ap, subst, arith, nat_tests}
-use Words.{eqb-true, Option, Some, None, append-nil, filter-append, list_all, list_any, and_parts, nat_le, AllByRecursion, bytes_eq-Decides, name, Body, Event, Header, Kind, Label, Line}
+use Words.{◌≡◌, ◌∙◌, ◌+◌, ◌-◌, ◌==◌, ◌&&◌, ◌||◌, ◌++◌, not, ℕ, Bool, true, false, cond, if◌then◌else◌, List, [], ◌∷◌, filter, inl, inr}
+use Words.{⊎_elim, refl, sym, ap, subst, arith, nat_tests}
+use Words.{eqb-true, Option, Some, None, append-nil, filter-append, list_all, list_any, and_parts, nat_le, AllByRecursion, bytes_eq-Decides}
+use Words.{name, Body, Event, Header, Kind, Label, Line}
 use Words.body
 use Words.cause
 use Words.event
@@ -67,7 +69,8 @@ one_other e b may = refl
 
 between_other : (e : Event) (bs : List Body) → list_all (may_stand e) bs ≡ true → AreOther bs
 between_other e [] all = tt
-between_other e (b ∷ bs) all = let q = and_parts (may_stand e b) (list_all (may_stand e) bs) all in (one_other e b q.0, between_other e bs q.1)
+between_other e (b ∷ bs) all = let q = and_parts (may_stand e b) (list_all (may_stand e) bs) all in
+    (one_other e b q.0, between_other e bs q.1)
 
 limit_other : (last : List Body) → MayMeetLimit last → AreOther last
 limit_other last (inl none) = subst AreOther (sym none) tt
@@ -178,9 +181,11 @@ module _ (hd : Header) (p : Past) (bodies : List Body) where
   commit_other kind.Constituent l = refl
 
   -- a commit asks no call
-  same_doom : (l : Label) → is_doomed (p.accepted ++ asked_of p (event.Commit l) ∷ []) p.lines (name l) ≡ is_doomed p.accepted p.lines (name l)
+  same_doom : (l : Label) →
+      is_doomed (p.accepted ++ asked_of p (event.Commit l) ∷ []) p.lines (name l) ≡ is_doomed p.accepted p.lines (name l)
   same_doom l = λ i. holds_of (λ a. list_any (λ lost. holds_in (had_invoked p.lines (let u = a.uid in u.node) lost)
-      (last_asked (filter (λ (k : Asked). nat_le k.at lost.at) (same i)))) (read (lost_by (name l)) [] 0 p.lines)) (act_in (acts p.lines) (name l))
+      (last_asked (filter (λ (k : Asked). nat_le k.at lost.at) (same i)))) (read (lost_by (name l)) [] 0 p.lines))
+      (act_in (acts p.lines) (name l))
     where
       same : asks_by (p.accepted ++ asked_of p (event.Commit l) ∷ []) (name l) ≡ asks_by p.accepted (name l)
       same = filter-append (λ (k : Asked). is_ask_by (name l) k.event) p.accepted (asked_of p (event.Commit l) ∷ [])
@@ -196,22 +201,26 @@ module _ (hd : Header) (p : Past) (bodies : List Body) where
       is_doomed p.accepted p.lines (name l) ≡ true → AreOther rest →
       RowStep (λ x. is_denial) hd p (event.Commit l) (body.Aborted l cause.Doomed ∷ rest)
   doomed_fits l a rest named plain lost others =
-      (λ i. its i && others_fit (behind (here_at hd p (event.Commit l) (body.Aborted l cause.Doomed ∷ rest)) (body.Aborted l cause.Doomed)) rest others i)
+      (λ i. its i && others_fit
+      (behind (here_at hd p (event.Commit l) (body.Aborted l cause.Doomed ∷ rest)) (body.Aborted l cause.Doomed)) rest others i)
     where
       its : doomed_caused (here_at hd p (event.Commit l) (body.Aborted l cause.Doomed ∷ rest)) (name l) ≡ true
       its = (λ i. (bytes_eq-Decides (name l) (name l)).1 refl i
           && (holds_of (λ x. not (is_serial x.kind)) (named i) && is_doomed (accepted i) p.lines (name l)))
           ∙ (λ i. not (plain i) && (same_doom l ∙ lost) i)
         where
-          accepted : (if is_refused (body.Aborted l cause.Doomed ∷ rest) then p.accepted else p.accepted ++ asked_of p (event.Commit l) ∷ [])
+          accepted : (if is_refused (body.Aborted l cause.Doomed ∷ rest) then p.accepted else p.accepted ++ asked_of p
+              (event.Commit l) ∷ [])
               ≡ p.accepted ++ asked_of p (event.Commit l) ∷ []
           accepted = refl
 
-  commit_fits : (l : Label) (own rest : List Body) → bodies ≡ own ++ rest → AreOther rest → (o : Option Act) → act_in (acts p.lines) (name l) ≡ o →
+  commit_fits : (l : Label) (own rest : List Body) → bodies ≡ own ++ rest → AreOther rest → (o : Option Act) →
+      act_in (acts p.lines) (name l) ≡ o →
       BeginsCommit p l o own → RowStep (λ x. is_denial) hd p (event.Commit l) bodies
   commit_fits l own rest parts others None named its = absurd its
   commit_fits l own rest parts others (Some a) named (inl line) =
-      all_other (event.Commit l) (subst AreOther (sym parts) (both_other own rest (one own (commit_line a.kind l) (commit_other a.kind l) line) others))
+      all_other (event.Commit l)
+      (subst AreOther (sym parts) (both_other own rest (one own (commit_line a.kind l) (commit_other a.kind l) line) others))
   commit_fits l own rest parts others (Some a) named (inr d) =
       subst (RowStep (λ x. is_denial) hd p (event.Commit l)) (sym (parts ∙ ap (λ bs. bs ++ rest) d.0))
       (doomed_fits l a rest named d.1 d.2 others)
@@ -223,7 +232,8 @@ module _ (hd : Header) (p : Past) (bodies : List Body) where
       others = both_other a.others a.last (between_other e a.others a.only) (last_other e a.own a.last a.ends)
 
       by : (b : Bool) → is_commit e ≡ b → RowStep (λ x. is_denial) hd p e bodies
-      by false off = all_other e (subst AreOther (sym a.parts) (both_other a.own (a.others ++ a.last) (own_other e off a.own a.begins) others))
+      by false off = all_other e
+          (subst AreOther (sym a.parts) (both_other a.own (a.others ++ a.last) (own_other e off a.own a.begins) others))
       by true on =
           let c = the_commit e on in
           subst (λ x. RowStep (λ z. is_denial) hd p x bodies) (sym c.1)
@@ -268,7 +278,8 @@ module _ (hd : Header) (p : Past) (bodies : List Body) where
 
 -- ---- runs
 
-along_fits : (hd : Header) (p : Past) (es : List Event) (end : Past) → Along (Step hd) p es end → Along (RowStep (λ x. is_denial) hd) p es end
+along_fits : (hd : Header) (p : Past) (es : List Event) (end : Past) → Along (Step hd) p es end →
+    Along (RowStep (λ x. is_denial) hd) p es end
 along_fits hd p [] end is = is
 along_fits hd p (e ∷ es) end h = (h.0, step_fits hd p h.0 e h.1, along_fits hd (next p e h.0) es end h.2)
 

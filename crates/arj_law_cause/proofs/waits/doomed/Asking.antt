@@ -1,13 +1,21 @@
 -- Which calls wait for what they asked a server to run: what they ask goes out as they come to it, and they stay at it.
 use Rattle.arj_law_parts.proofs.Words
-use Words.{◌≡◌, ◌⊎◌, ◌∙◌, ◌+◌, ℕ, zero, suc, Bool, true, false, cond, List, [], ◌∷◌, ◌++◌, Option, Some, None, refl, sym, ap, subst, inl, inr, ⊎_elim, ⊤}
-use Words.{Ask, End, Head, Kind, Label, Path, Uid, Body, asks, path_of, request, request_reads_back, actor, ask_kind, is_invoke_ask, in_right}
-use Words.{again_all, begin_action, call, call_steps, commit_action, commit_open, commit_top, commits_in, doomed_by, ends_call, gaveup_lines, give_up}
-use Words.{give_up_doing, gives_up, goes_on, include, last_req, next_req, renewed, root_heard, root_lost, step_call, step_commit, At, AtActivate}
-use Words.{AtBind, AtInvoke, AtLoad, AtNote, CallEnd, CallStep, Ended, Goal, On, Steps, ask_at, given_up, is_invoke, next_ask, next_node, start}
-use Words.{Aborts, Asks, CommitStep, Decides, Machine, Plan, Stays, Confirming, Preparing, Voting, ask_of, has_record, participants, plan_of, waiting}
-use Words.{Calling, Committing, Coord, Doing, Idle, Now, doing_of, is_free, keeping_of, on_doing, on_root, plan_for, root_at, with_keeping, Effect, Intent}
-use Words.{abort_action, aborts_with, all_aborted, decide, ended, root_after, put_uid, unbound, Input, acts, branch_named, on_branch, parent_of, Branch}
+use Words.{◌≡◌, ◌⊎◌, ◌∙◌, ◌+◌, ℕ, zero, suc, Bool, true, false, cond, List, [], ◌∷◌, ◌++◌, Option, Some, None, refl, sym, ap, subst, inl}
+use Words.{inr, ⊎_elim, ⊤}
+use Words.{Ask, End, Head, Kind, Label, Path, Uid, Body, asks, path_of, request, request_reads_back, actor, ask_kind, is_invoke_ask}
+use Words.{in_right}
+use Words.{again_all, begin_action, call, call_steps, commit_action, commit_open, commit_top, commits_in, doomed_by, ends_call}
+use Words.{gaveup_lines, give_up}
+use Words.{give_up_doing, gives_up, goes_on, include, last_req, next_req, renewed, root_heard, root_lost, step_call, step_commit, At}
+use Words.{AtActivate}
+use Words.{AtBind, AtInvoke, AtLoad, AtNote, CallEnd, CallStep, Ended, Goal, On, Steps, ask_at, given_up, is_invoke, next_ask, next_node}
+use Words.{start}
+use Words.{Aborts, Asks, CommitStep, Decides, Machine, Plan, Stays, Confirming, Preparing, Voting, ask_of, has_record, participants}
+use Words.{plan_of, waiting}
+use Words.{Calling, Committing, Coord, Doing, Idle, Now, doing_of, is_free, keeping_of, on_doing, on_root, plan_for, root_at, with_keeping}
+use Words.{Effect, Intent}
+use Words.{abort_action, aborts_with, all_aborted, decide, ended, root_after, put_uid, unbound, Input, acts, branch_named, on_branch}
+use Words.{parent_of, Branch}
 use Words.{at_place, ended_at, is_own, open_below, root_of, uses_object, Post, IsToSettle}
 use Words.calls
 use Words.cause
@@ -125,7 +133,8 @@ both_go_on c e g outs one two w q s does now is =
     ⊎_elim (λ old. ⊎_elim (λ older. inl older) (λ a. absurd a.sent) (one w old.0 s old.1 old.2 is)) (λ a. inr a) (two w q s does now is)
 
 -- an action that goes on in another way than by a call
-rests_on : (v : Uid) (f : Doing → Doing) (c : Coord) (outs : List Effect) → ((d : Doing) (s : Steps) → (f d).now ≡ Calling s → d.now ≡ Calling s) →
+rests_on : (v : Uid) (f : Doing → Doing) (c : Coord) (outs : List Effect) →
+    ((d : Doing) (s : Steps) → (f d).now ≡ Calling s → d.now ≡ Calling s) →
     GoOn c (on_doing v f c) outs
 rests_on v f c outs keeps w q s does now is = ⊎_elim
     (λ same. inl (same.1, same.2, keeps same.1 s (ap (λ (d : Doing). d.now) same.3 ∙ now)))
@@ -228,7 +237,8 @@ giveup_so u intents c = by (doing_of u c)
     by None = stays c []
     by (Some d) = now d.now
 
-pub acts_go : (i : Input) (intents : List (Uid × Intent)) (c : Coord) → is_act i ≡ true → GoOn c (acts i intents c).part (acts i intents c).outs
+pub acts_go : (i : Input) (intents : List (Uid × Intent)) (c : Coord) → is_act i ≡ true →
+    GoOn c (acts i intents c).part (acts i intents c).outs
 acts_go (input.Call l x o) intents c is = by (branch_named l c)
   where
     by : (f : Option Branch) → GoOn c (on_branch (λ b. call b.path x o c) c f).part (on_branch (λ b. call b.path x o c) c f).outs
@@ -254,7 +264,8 @@ acts_go (input.Include l x n) intents c is = by (branch_named l c)
         (λ w. let same = uses_same p x c.tree in λ i. cond (same.own w i) (at_place w.num c.doings) None) (goes_so s t)
 acts_go (input.Commit l) intents c is = by (branch_named l c)
   where
-    by : (f : Option Branch) → GoOn c (on_branch (λ b. commit_action b intents c) c f).part (on_branch (λ b. commit_action b intents c) c f).outs
+    by : (f : Option Branch) →
+        GoOn c (on_branch (λ b. commit_action b intents c) c f).part (on_branch (λ b. commit_action b intents c) c f).outs
     by None = stays c []
     by (Some b) = any_outs c (commit_action b intents c).part (commit_action b intents c).outs (action_so b intents c)
 acts_go (input.Abort l) intents c is = by (branch_named l c)

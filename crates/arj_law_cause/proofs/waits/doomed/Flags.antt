@@ -1,7 +1,8 @@
 -- Which actions of a coordinator's tree are doomed: only those of which this holds.
 use Rattle.arj_law_parts.proofs.Words
 use Words.{◌≡◌, ◌≢◌, ◌∙◌, ◌==◌, ℕ, zero, suc, Bool, true, false, cond, [], ◌∷◌, ◌++◌, length, refl, sym, ap, subst, arith, nat_tests}
-use Words.{⊎_elim, Option, Some, None, nat_le, eqb-true, place_other, Branch, End, Kind, Path, Tree, Uid, at_place, begun, branch_of, doomed_at, doomed_branch}
+use Words.{⊎_elim, Option, Some, None, nat_le, eqb-true, place_other, Branch, End, Kind, Path, Tree, Uid, at_place, begun, branch_of}
+use Words.{doomed_at, doomed_branch}
 use Words.{ended_at, ended_branch, family_of, is_own, new_tree, next_uid, path_below, root_of, set_place, uids_of, uses_object, with_family}
 use Rattle.arj_law_runs.proofs.Terms.{found_by, own_is, place_same}
 use Rattle.arj_law_runs.proofs.journal.Begun.{place_cases}
@@ -34,7 +35,8 @@ module _ (D : Uid → Type 0) where
           let one : c ≡ x = some_is (sym (place_same w.num c b t.branches was.1)
           ∙ ap (λ j. at_place j (set_place w.num c t.branches)) (sym same) ∙ at.1) in
           subst D (sym (own_is u w t at.0 was.0 same)) (may (ap (λ (y : Branch). y.doomed) one ∙ doomed))
-      by false e = its u x (ap (λ z. cond z (at_place u.num t.branches) None) at.0 ∙ sym (place_other w.num u.num c t.branches (apart e)) ∙ at.1)
+      by false e = its u x (ap (λ z. cond z (at_place u.num t.branches) None) at.0 ∙ sym (place_other w.num u.num c t.branches (apart e))
+          ∙ at.1)
           doomed
 
   pub flags_new : (n inc : ℕ) → Flags (new_tree n inc)

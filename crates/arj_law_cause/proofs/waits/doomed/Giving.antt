@@ -1,7 +1,9 @@
 -- A call that waits for its operation and is given up dooms its action by the journal.
 use Rattle.arj_law_parts.proofs.Words
-use Words.{◌≡◌, ◌⊎◌, ◌∙◌, ◌+◌, ◌++◌, ◌==◌, ◌&&◌, ◌||◌, ◌≤◌, ℕ, zero, suc, Bool, true, false, cond, if◌then◌else◌, List, [], ◌∷◌, filter, length, Option, Some}
-use Words.{refl, sym, ap, subst, inl, inr, ⊎_elim, arith, nat_tests, nat_le, AllByRecursion, append-nil, append_assoc, filter-append, length-append, list_any, bytes_eq-Decides}
+use Words.{◌≡◌, ◌⊎◌, ◌∙◌, ◌+◌, ◌++◌, ◌==◌, ◌&&◌, ◌||◌, ◌≤◌, ℕ, zero, suc, Bool, true, false, cond, if◌then◌else◌, List, [], ◌∷◌, filter}
+use Words.{length, Option, Some}
+use Words.{refl, sym, ap, subst, inl, inr, ⊎_elim, arith, nat_tests, nat_le, AllByRecursion, append-nil, append_assoc, filter-append}
+use Words.{length-append, list_any, bytes_eq-Decides}
 use Words.{eqb-true, and_parts, name, Ask, Head, Header, In, Kind, Label, Line, Message, Uid, Asked, asks, actor, ask_kind, frame_kind}
 use Words.{is_serial, Doing, doing_of, Calling, Steps, At, AtActivate, AtBind, AtInvoke, AtLoad, AtNote, Goal, Run, is_invoke, next_node}
 use Words.{at_place, kept_at, Branch, Node, Parts, Frame, Post, World, see}
@@ -77,7 +79,8 @@ frame_sent sent (f ∷ fs) p all (inr has) = frame_sent sent fs p all.1 has
 invoke_kind : (m : Message) (h : Head) (a : Ask) → asks m ≡ Some (h, a) → ask_kind a ≡ 5 → frame_kind m ≡ frame.Invoke
 invoke_kind m h a is five = by m is
   where
-    apart : {B : Type 0} (g : Head) (b : Ask) (n : ℕ) → ask_kind b ≡ n → (n ≡ 5 → ⊥) → ◌≡◌ {A = Option (Head × Ask)} (Some (g, b)) (Some (h, a)) → B
+    apart : {B : Type 0} (g : Head) (b : Ask) (n : ℕ) → ask_kind b ≡ n → (n ≡ 5 → ⊥) →
+        ◌≡◌ {A = Option (Head × Ask)} (Some (g, b)) (Some (h, a)) → B
     apart g b n kind isnt same =
         let one : ◌≡◌ {A = Head × Ask} (g, b) (h, a) = cc same in
         absurd (isnt (sym kind ∙ ap (λ (x : Head × Ask). ask_kind x.1) one ∙ five))
@@ -118,7 +121,8 @@ module _ (hd : Header) (form : HeaderInForm hd) (g : History) (p : Past) (w : Wo
   same_number : (a b : ℕ) → a ≡ b → (a == b) ≡ true
   same_number a b is = grind (arith, nat_tests, is)
 
-  module _ (u : Uid) (d : Doing) (q : Steps) (does : doing_of u t.coord ≡ Some d) (now : d.now ≡ Calling q) (is : is_invoke q.at ≡ true) where
+  module _ (u : Uid) (d : Doing) (q : Steps) (does : doing_of u t.coord ≡ Some d) (now : d.now ≡ Calling q)
+      (is : is_invoke q.at ≡ true) where
     f : acting.Stands (let h = s.base.base.halts in see h.sent w) (let h = s.base.base.halts in h.holds) k n t there live u d
     f = acting.stands (let h = s.base.base.halts in see h.sent w) (let h = s.base.base.halts in h.holds) k n t there live u d does
 
@@ -136,7 +140,8 @@ module _ (hd : Header) (form : HeaderInForm hd) (g : History) (p : Past) (w : Wo
 
     lined : IsLined g.askings w.lines post (let a = asking_it in a.head)
     lined = let h = s.all.now in let a = asking_it in
-        ⊎_elim (λ same. absurd (let x = way.1 in x.apart same)) (λ l. l) (let r : AreLined _ = h.holds.1 in r.lined post a.head a.ask sent a.is)
+        ⊎_elim (λ same. absurd (let x = way.1 in x.apart same)) (λ l. l)
+        (let r : AreLined _ = h.holds.1 in r.lined post a.head a.ask sent a.is)
 
     asked : IsAskedSo g.askings u d q
     asked = let a = s.base.tied.now.holds.1 in
@@ -177,12 +182,14 @@ module _ (hd : Header) (form : HeaderInForm hd) (g : History) (p : Past) (w : Wo
         by (AtInvoke z i) is = refl
 
     -- the line says so
-    is_line : is_frame (let a = f.act in let v = a.uid in v.node) (next_node q) (frame.Invoke ∷ []) (let l = lined in let x = l.line in x.body) ≡ true
+    is_line : is_frame (let a = f.act in let v = a.uid in v.node) (next_node q) (frame.Invoke ∷ [])
+        (let l = lined in let x = l.line in x.body) ≡ true
     is_line = let l = lined in
         ap (is_frame (let a = f.act in let v = a.uid in v.node) (next_node q) (frame.Invoke ∷ [])) l.says
         ∙ (λ i. same_number post.from (let a = f.act in let v = a.uid in v.node) (way.2 ∙ sym home_is) i
         && (same_number post.to (next_node q) way.3 i
-        && list_any (same_frame (invoke_kind post.message (let a = asking_it in a.head) (let a = asking_it in a.ask) (let a = asking_it in a.is) five i))
+        && list_any (same_frame
+        (invoke_kind post.message (let a = asking_it in a.head) (let a = asking_it in a.ask) (let a = asking_it in a.is) five i))
         (frame.Invoke ∷ [])))
 
     -- behind what the giveup says first

@@ -1,7 +1,9 @@
 -- A call that was lost at a node that it had sent an Invoke, as it stands in the journal: its action is doomed by it, and stays so.
 use Rattle.arj_law_parts.proofs.Words
-use Words.{◌≡◌, ◌≤◌, ◌∙◌, ◌+◌, ◌&&◌, ◌++◌, ℕ, suc, Bool, true, false, cond, if◌then◌else◌, List, [], ◌∷◌, filter, length, take, refl, sym, ap, subst, arith}
-use Words.{nat_tests, nat_le, inl, inr, Option, Some, None, append-nil, append_assoc, filter-append, list_any, length-append, bytes_eq, name, Body, Event, In, Label, Line, Uid, is_serial}
+use Words.{◌≡◌, ◌≤◌, ◌∙◌, ◌+◌, ◌&&◌, ◌++◌, ℕ, suc, Bool, true, false, cond, if◌then◌else◌, List, [], ◌∷◌, filter, length, take, refl, sym}
+use Words.{ap, subst, arith}
+use Words.{nat_tests, nat_le, inl, inr, Option, Some, None, append-nil, append_assoc, filter-append, list_any, length-append, bytes_eq}
+use Words.{name, Body, Event, In, Label, Line, Uid, is_serial}
 use Words.body
 use Words.frame
 use Rattle.std.specs.Prelude.{drop}
@@ -19,7 +21,8 @@ in_put : {A : Type 0} (n : ℕ) (o : Option A) (xs : List (Placed A)) (x : Place
 in_put n None xs x i = i
 in_put n (Some a) xs x i = inr i
 
-in_read : {A : Type 0} (f : List Act → Body → Option A) (us : List Act) (n : ℕ) (before : List Line) (line : Line) (after : List Line) (a : A) →
+in_read : {A : Type 0} (f : List Act → Body →
+    Option A) (us : List Act) (n : ℕ) (before : List Line) (line : Line) (after : List Line) (a : A) →
     ((vs : List Act) → f vs line.body ≡ Some a) →
     In (record { at = n + length before; it = a }) (read f us n (before ++ line ∷ after))
 in_read {A} f us n [] line after a its =
@@ -137,7 +140,8 @@ lost_is acc ls a named x =
     holds =
         ap (holds_in (had_invoked ls (let u = a.uid in u.node) (record { at = 0 + length x.before; it = x.node })))
         ((λ i. last_asked (filter (λ (k : AskedOf). nat_le k.at (zero_more (length x.before) i)) (asks_by acc a.label))) ∙ x.last)
-        ∙ (λ i. is_call (let k = x.asked in k.event) && list_any (λ (z : Line). is_frame (let u = a.uid in u.node) x.node (frame.Invoke ∷ []) z.body)
+        ∙ (λ i. is_call (let k = x.asked in k.event) && list_any
+        (λ (z : Line). is_frame (let u = a.uid in u.node) x.node (frame.Invoke ∷ []) z.body)
         (drop (let k = x.asked in k.at) (taken i)))
         ∙ (λ i. x.call i && x.frame i)
 
@@ -162,7 +166,8 @@ doomed_next p e bodies u d = record {
   began = began_more p.lines (block (p.count + 1) bodies) d.act d.began;
   uid = d.uid;
   plain = d.plain;
-  lost = lost_more (next p e bodies).accepted p.lines (block (p.count + 1) bodies) (let a = d.act in a.label) (let a = d.act in let w = a.uid in w.node)
+  lost = lost_more (next p e bodies).accepted p.lines (block (p.count + 1) bodies) (let a = d.act in a.label)
+      (let a = d.act in let w = a.uid in w.node)
       (by (is_refused bodies));
 }
   where

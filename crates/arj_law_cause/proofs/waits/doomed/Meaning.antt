@@ -1,8 +1,11 @@
 -- A branch that is doomed at its coordinator is that of an action which the journal dooms; what is refused with 12 asks for such a branch.
 use Rattle.arj_law_parts.proofs.Words
-use Words.{◌≡◌, ◌∙◌, ◌&&◌, ◌||◌, ◌==◌, not, ℕ, Bool, true, false, cond, List, [], ◌∷◌, ◌++◌, list_all, and_parts, Option, Some, None, refl, sym, ap, subst, arith}
-use Words.{is_some, name, is_serial, Event, Header, Label, Branch, Coord, Input, Node, Parts, World, at_place, branch_named, first_reason, kind_below}
-use Words.{node_of, reasons, refused_at, refused_by, refusal_up, call_reasons, include_reasons, waits_above, waits_below, class_at, lacks_op}
+use Words.{◌≡◌, ◌∙◌, ◌&&◌, ◌||◌, ◌==◌, not, ℕ, Bool, true, false, cond, List, [], ◌∷◌, ◌++◌, list_all, and_parts, Option, Some, None, refl}
+use Words.{sym, ap, subst, arith}
+use Words.{is_some, name, is_serial, Event, Header, Label, Branch, Coord, Input, Node, Parts, World, at_place, branch_named, first_reason}
+use Words.{kind_below}
+use Words.{node_of, reasons, refused_at, refused_by, refusal_up, call_reasons, include_reasons, waits_above, waits_below, class_at}
+use Words.{lacks_op}
 use Words.{has_many_objects, is_below_16, see}
 use Words.body
 use Words.event
@@ -39,7 +42,8 @@ module _ (hd : Header) (form : HeaderInForm hd) (g : History) (p : Past) (w : Wo
       let same : f.act ≡ x.act = one_act (acts w.lines) (acting.distinct (see h.sent w) h.holds k n t there live) f.act x.act f.began
       (subst (λ ls. Words.In x.act (acts ls)) lines x.began) (f.uid ∙ sym x.uid) in
       let label : (let a = x.act in a.label) ≡ name l = ap (λ (a : Act). a.label) (sym same) ∙ f.label ∙ nm.name_is in
-      let found : act_in (acts p.lines) (name l) ≡ Some x.act = (λ i. act_in (acts (lines i)) (sym nm.name_is i)) ∙ f.named ∙ ap Some same in
+      let found : act_in (acts p.lines) (name l) ≡ Some x.act = (λ i. act_in (acts (lines i)) (sym nm.name_is i)) ∙ f.named
+      ∙ ap Some same in
       record {
         act = x.act;
         named = found;
@@ -71,7 +75,8 @@ not_among (r ∷ rs) all is = by r.1 is (not_among rs parts.1)
     by false is rest = rest is
 
 -- behind others it is this one
-is_twelfth : (rs : List (ℕ × Bool)) (x : Bool) (more : List (ℕ × Bool)) → AreOther rs → AreOther more → first_reason (rs ++ (12, x) ∷ more) ≡ Some 12 →
+is_twelfth : (rs : List (ℕ × Bool)) (x : Bool) (more : List (ℕ × Bool)) → AreOther rs → AreOther more →
+    first_reason (rs ++ (12, x) ∷ more) ≡ Some 12 →
     x ≡ true
 is_twelfth [] true more all later is = refl
 is_twelfth [] false more all later is = absurd (not_among more later is)
@@ -111,7 +116,8 @@ pub record HasDoomed (w : World) (l : Label) : Type 0 where
 
 -- an input about an action, which others refuse with other numbers
 module _ (w : World) (k : ℕ) (i : Input) (down : refusal_at w.header i None ≡ Some 6) where
-  up_node : {B : Type 0} → ((n : Node) (t : Parts) → at_place k w.nodes ≡ Some n → n.live ≡ Some t → refusal_up w.header i t.coord ≡ Some 12 → B) →
+  up_node : {B : Type 0} →
+      ((n : Node) (t : Parts) → at_place k w.nodes ≡ Some n → n.live ≡ Some t → refusal_up w.header i t.coord ≡ Some 12 → B) →
       refused_at i w (at_place k w.nodes) ≡ Some 12 → B
   up_node {B} its is = by (at_place k w.nodes) refl is
     where
@@ -126,9 +132,12 @@ module _ (w : World) (k : ℕ) (i : Input) (down : refusal_at w.header i None �
       by None there is = absurd (cc is)
       by (Some n) there is = live_at n there n.live refl is
 
-  named_doomed : (l : Label) (rs : Branch → Coord → List (ℕ × Bool)) → ((c : Coord) → refusal_up w.header i c ≡ refused_by rs c (branch_named l c)) →
-      ((b : Branch) (c : Coord) → first_reason (rs b c) ≡ Some 12 → b.doomed ≡ true) → refused_at i w (at_place k w.nodes) ≡ Some 12 → HasDoomed w l
-  named_doomed l rs same its is = up_node (λ n t there live refused. by n t there live (branch_named l t.coord) refl (sym (same t.coord) ∙ refused)) is
+  named_doomed : (l : Label) (rs : Branch → Coord → List (ℕ × Bool)) →
+      ((c : Coord) → refusal_up w.header i c ≡ refused_by rs c (branch_named l c)) →
+      ((b : Branch) (c : Coord) → first_reason (rs b c) ≡ Some 12 → b.doomed ≡ true) → refused_at i w (at_place k w.nodes) ≡ Some 12 →
+      HasDoomed w l
+  named_doomed l rs same its is = up_node
+      (λ n t there live refused. by n t there live (branch_named l t.coord) refl (sym (same t.coord) ∙ refused)) is
     where
       by : (n : Node) (t : Parts) → at_place k w.nodes ≡ Some n → n.live ≡ Some t → (o : Option Branch) → branch_named l t.coord ≡ o →
           refused_by rs t.coord o ≡ Some 12 → HasDoomed w l
@@ -145,7 +154,8 @@ module _ (w : World) (k : ℕ) (i : Input) (down : refusal_at w.header i None �
       }
 
   -- who is refused otherwise
-  never_twelve : (l : Label) (rs : Branch → Coord → List (ℕ × Bool)) → ((c : Coord) → refusal_up w.header i c ≡ refused_by rs c (branch_named l c)) →
+  never_twelve : (l : Label) (rs : Branch → Coord → List (ℕ × Bool)) →
+      ((c : Coord) → refusal_up w.header i c ≡ refused_by rs c (branch_named l c)) →
       ((b : Branch) (c : Coord) → AreOther (rs b c)) → refused_at i w (at_place k w.nodes) ≡ Some 12 → ⊥
   never_twelve l rs same others is = up_node (λ n t there live refused. by t (branch_named l t.coord) (sym (same t.coord) ∙ refused)) is
     where
@@ -163,7 +173,8 @@ twelve_doomed (event.BeginIn l p) w is = (
   refl,
   named_doomed w (node_of p w) (input.Begin l (kind_below p w) (Some p)) refl p (begin_reasons (kind_below p w)) (λ c. refl)
       (λ b c first. is_twelfth ((6, is_some b.ended) ∷ (7, waits_above b c) ∷ (10, is_misplaced (kind_below p w) b) ∷ []) b.doomed
-      ((15, is_below_16 (kind_below p w) && is_too_deep b) ∷ (16, is_below_16 (kind_below p w) && has_many_actions b c.tree) ∷ []) refl refl first)
+      ((15, is_below_16 (kind_below p w) && is_too_deep b) ∷
+      (16, is_below_16 (kind_below p w) && has_many_actions b c.tree) ∷ []) refl refl first)
       (by_node (reasons (event.BeginIn l p) w) (node_refusal (event.BeginIn l p) w) refl is),
 )
 twelve_doomed (event.Top l p) w is = (
@@ -171,7 +182,8 @@ twelve_doomed (event.Top l p) w is = (
   refl,
   named_doomed w (node_of p w) (input.Begin l kind.Independent (Some p)) refl p (begin_reasons kind.Independent) (λ c. refl)
       (λ b c first. is_twelfth ((6, is_some b.ended) ∷ (7, waits_above b c) ∷ (10, is_misplaced kind.Independent b) ∷ []) b.doomed
-      ((15, is_below_16 kind.Independent && is_too_deep b) ∷ (16, is_below_16 kind.Independent && has_many_actions b c.tree) ∷ []) refl refl first)
+      ((15, is_below_16 kind.Independent && is_too_deep b) ∷
+      (16, is_below_16 kind.Independent && has_many_actions b c.tree) ∷ []) refl refl first)
       (by_node (reasons (event.Top l p) w) (node_refusal (event.Top l p) w) refl is),
 )
 twelve_doomed (event.Call l x o) w is = (
@@ -179,7 +191,8 @@ twelve_doomed (event.Call l x o) w is = (
   refl,
   named_doomed w (node_of l w) (input.Call l x o) refl l (call_reasons w.header x o) (λ c. refl)
       (λ b c first. is_twelfth ((6, is_some b.ended) ∷ (7, waits_above b c || waits_below b c) ∷ (11, is_serial b.kind) ∷ []) b.doomed
-      ((13, not (is_some (class_at x w.header))) ∷ (14, lacks_op o (class_at x w.header)) ∷ (16, has_many_objects b x c.tree) ∷ []) refl refl first)
+      ((13, not (is_some (class_at x w.header))) ∷ (14, lacks_op o (class_at x w.header)) ∷
+      (16, has_many_objects b x c.tree) ∷ []) refl refl first)
       (by_node (reasons (event.Call l x o) w) (node_refusal (event.Call l x o) w) refl is),
 )
 twelve_doomed (event.Include l x n) w is = (
@@ -190,11 +203,14 @@ twelve_doomed (event.Include l x n) w is = (
       ((13, not (is_some (class_at x w.header))) ∷ (16, has_many_objects b x c.tree) ∷ []) refl refl first)
       (by_node (reasons (event.Include l x n) w) (node_refusal (event.Include l x n) w) refl is),
 )
-twelve_doomed (event.Commit l) w is = absurd (never_twelve w (node_of l w) (input.Commit l) refl l Words.commit_reasons (λ c. refl) (λ b c. refl)
+twelve_doomed (event.Commit l) w is = absurd
+    (never_twelve w (node_of l w) (input.Commit l) refl l Words.commit_reasons (λ c. refl) (λ b c. refl)
     (by_node (reasons (event.Commit l) w) (node_refusal (event.Commit l) w) refl is))
-twelve_doomed (event.Abort l) w is = absurd (never_twelve w (node_of l w) (input.Abort l) refl l Words.abort_reasons (λ c. refl) (λ b c. refl)
+twelve_doomed (event.Abort l) w is = absurd
+    (never_twelve w (node_of l w) (input.Abort l) refl l Words.abort_reasons (λ c. refl) (λ b c. refl)
     (by_node (reasons (event.Abort l) w) (node_refusal (event.Abort l) w) refl is))
-twelve_doomed (event.GiveUp l) w is = absurd (never_twelve w (node_of l w) (input.GiveUp l) refl l Words.giveup_reasons (λ c. refl) (λ b c. refl)
+twelve_doomed (event.GiveUp l) w is = absurd
+    (never_twelve w (node_of l w) (input.GiveUp l) refl l Words.giveup_reasons (λ c. refl) (λ b c. refl)
     (by_node (reasons (event.GiveUp l) w) (node_refusal (event.GiveUp l) w) refl is))
 twelve_doomed (event.Begin l n) w is = absurd (up_node w n (input.Begin l kind.Top None) refl (λ m t there live refused. cc refused)
     (by_node (reasons (event.Begin l n) w) (node_refusal (event.Begin l n) w) refl is))
@@ -207,6 +223,8 @@ twelve_doomed event.Settle w is = none_twelve (by_node (reasons event.Settle w) 
 twelve_doomed event.Quiesce w is = none_twelve (by_node (reasons event.Quiesce w) (node_refusal event.Quiesce w) refl is)
 twelve_doomed (event.Crash n) w is = none_twelve (by_node (reasons (event.Crash n) w) (node_refusal (event.Crash n) w) refl is)
 twelve_doomed (event.Restart n) w is = none_twelve (by_node (reasons (event.Restart n) w) (node_refusal (event.Restart n) w) refl is)
-twelve_doomed (event.Stop n c how) w is = none_twelve (by_node (reasons (event.Stop n c how) w) (node_refusal (event.Stop n c how) w) refl is)
-twelve_doomed (event.Junk n bytes) w is = none_twelve (by_node (reasons (event.Junk n bytes) w) (node_refusal (event.Junk n bytes) w) refl is)
+twelve_doomed (event.Stop n c how) w is = none_twelve
+    (by_node (reasons (event.Stop n c how) w) (node_refusal (event.Stop n c how) w) refl is)
+twelve_doomed (event.Junk n bytes) w is = none_twelve
+    (by_node (reasons (event.Junk n bytes) w) (node_refusal (event.Junk n bytes) w) refl is)
 twelve_doomed (event.Show x) w is = none_twelve (by_node (reasons (event.Show x) w) (node_refusal (event.Show x) w) refl is)

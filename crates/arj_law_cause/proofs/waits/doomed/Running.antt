@@ -1,8 +1,11 @@
 -- Event by event: what is refused with 12, and each commit whose action is aborted as doomed, is of an action that the journal dooms.
 use Rattle.arj_law_parts.proofs.Words
-use Words.{◌≡◌, ◌∙◌, ◌+◌, ◌++◌, ℕ, zero, suc, Bool, true, false, cond, if◌then◌else◌, List, [], ◌∷◌, Option, Some, None, refl, sym, ap, subst, append_assoc, map-append, append-nil}
-use Words.{actor, at_place, branch_named, counted, doing_of, first_reason, giving, happens, is_invoke, lacks_labels, limited, moved, name, no_labels, node_in, node_of}
-use Words.{reasons, refusal_up, refused_at, refused_by, run_unless, steps, world_from, numbered, see, Body, Branch, Calling, Doing, Event, Header, Input, Kind}
+use Words.{◌≡◌, ◌∙◌, ◌+◌, ◌++◌, ℕ, zero, suc, Bool, true, false, cond, if◌then◌else◌, List, [], ◌∷◌, Option, Some, None, refl, sym, ap}
+use Words.{subst, append_assoc, map-append, append-nil}
+use Words.{actor, at_place, branch_named, counted, doing_of, first_reason, giving, happens, is_invoke, lacks_labels, limited, moved, name}
+use Words.{no_labels, node_in, node_of}
+use Words.{reasons, refusal_up, refused_at, refused_by, run_unless, steps, world_from, numbered, see, Body, Branch, Calling, Doing, Event}
+use Words.{Header, Input, Kind}
 use Words.{commit_reasons, Label, Labelled, Move, Node, Parts, Start, Steps, Uid, World, next_node}
 use Words.body
 use Words.cause
@@ -94,7 +97,8 @@ module _ (hd : Header) (form : HeaderInForm hd) where
   binds_kept : KeepsAsked hd (λ M. IsGood M × BindsAreKnown M)
   binds_kept = keeps_asked hd (λ M. IsGood M × BindsAreKnown M) (binds_keep hd)
 
-  module _ (m : Move) (g : History) (p : Past) (w : World) (stops : IsStoppedInForm m) (s : Stands hd form g p w) (on : w.over ≡ false) where
+  module _ (m : Move) (g : History) (p : Past) (w : World) (stops : IsStoppedInForm m) (s : Stands hd form g p w)
+      (on : w.over ≡ false) where
     abbrev V : World
     V = happens (event_of m) (let a = m.asked in a.arm) (counted (record w { arms = m.falls }))
 
@@ -148,7 +152,8 @@ module _ (hd : Header) (form : HeaderInForm hd) where
 
       -- a giveup dooms an action that waits for its operation
       giveup_acts : (l : Label) → event_of m ≡ event.GiveUp l → (moved m w).lines ≡ V.lines →
-          walking.MayAct hd form (Flags D) (flags_hear D) (flags_begun D) (flags_new D) (node_of l w) (counted (record w { arms = m.falls }))
+          walking.MayAct hd form (Flags D) (flags_hear D) (flags_begun D) (flags_new D) (node_of l w)
+          (counted (record w { arms = m.falls }))
           (input.GiveUp l)
       giveup_acts l event all a c there live is none its =
           of_acts (Flags D) (flags_ended D) (flags_uses D) (let d = a.disk in d.intents) c.coord its (input.GiveUp l)
@@ -189,13 +194,18 @@ module _ (hd : Header) (form : HeaderInForm hd) where
                   (ap (refusal_at w.header (input.GiveUp l)) live ∙ refused) (ap (λ z. branch_named z c.coord) same ∙ named)
                   d x does now actor_same waits
 
-              its_lines : (next p (event_of m) bodies).lines ≡ w.lines ++ record { event = w.event + 1; body = body.GaveUp d.label (next_node x) }
+              its_lines : (next p (event_of m) bodies).lines ≡ w.lines ++ record {
+                event = w.event + 1;
+                body = body.GaveUp d.label
+                    (next_node x);
+              }
                   ∷ record { event = w.event + 1; body = body.Lost d.label (next_node x) } ∷ numbered (w.event + 1) said.has.0
               its_lines = lines ∙ all ∙ ap (λ e. (happens e (let z = m.asked in z.arm) (counted (record w { arms = m.falls }))).lines) event
                   ∙ said.lines ∙ ap (λ bs. w.lines ++ numbered (w.event + 1) bs) said.has.1
 
               accepted : (next p (event_of m) bodies).accepted ≡ p.accepted ++ asked_of p (event_of m) ∷ []
-              accepted = ap (λ z. if z then p.accepted else p.accepted ++ asked_of p (event_of m) ∷ []) (ap is_refused (same_bodies (p.count + 1) bodies
+              accepted = ap (λ z. if z then p.accepted else p.accepted ++ asked_of p (event_of m) ∷ [])
+                  (ap is_refused (same_bodies (p.count + 1) bodies
                   (body.GaveUp d.label (next_node x) ∷ body.Lost d.label (next_node x) ∷ said.has.0) p.lines (its_lines
                   ∙ (λ i. sym lines_are i ++ numbered (sym count_is i + 1) (body.GaveUp d.label (next_node x)
                   ∷ body.Lost d.label (next_node x) ∷ said.has.0)))))
@@ -203,7 +213,8 @@ module _ (hd : Header) (form : HeaderInForm hd) where
       its_acts : (x : Event) → event_of m ≡ x → (moved m w).lines ≡ V.lines →
           walking.Acts hd form (Flags D) (flags_hear D) (flags_begun D) (flags_new D) x (counted (record w { arms = m.falls }))
       its_acts (event.Call l x o) is all = plain_acts (input.Call l x o) (node_of l w) (λ q how parent same. cc same) (λ q same. cc same)
-      its_acts (event.Include l x n) is all = plain_acts (input.Include l x n) (node_of l w) (λ q how parent same. cc same) (λ q same. cc same)
+      its_acts (event.Include l x n) is all = plain_acts (input.Include l x n) (node_of l w) (λ q how parent same. cc same)
+          (λ q same. cc same)
       its_acts (event.Commit l) is all = plain_acts (input.Commit l) (node_of l w) (λ q how parent same. cc same) (λ q same. cc same)
       its_acts (event.Abort l) is all = plain_acts (input.Abort l) (node_of l w) (λ q how parent same. cc same) (λ q same. cc same)
       its_acts (event.GiveUp l) is all = giveup_acts l is all
@@ -246,10 +257,12 @@ module _ (hd : Header) (form : HeaderInForm hd) where
               lacks_labels (Words.giving (event_of m) (record w { arms = m.falls })) (record w { arms = m.falls }) ≡ b →
               Ways hd form (Doomed (next p (event_of m) bodies)) (moved m w)
           labelled none true lacks =
-              let is = is_so (no_labels (record w { arms = m.falls })) (ap (run_unless (event_of m) (let a = m.asked in a.arm) (record w { arms = m.falls })) none
+              let is = is_so (no_labels (record w { arms = m.falls }))
+              (ap (run_unless (event_of m) (let a = m.asked in a.arm) (record w { arms = m.falls })) none
               ∙ (λ i. cond (lacks i) (no_labels (record w { arms = m.falls })) (limited V))) in
               keeps_it (moved m w) (ap (λ (y : World). y.nodes) is) (ap (λ (y : World). y.frames) is)
-          labelled none false has = run none (is_so (limited V) (ap (run_unless (event_of m) (let a = m.asked in a.arm) (record w { arms = m.falls })) none
+          labelled none false has = run none
+              (is_so (limited V) (ap (run_unless (event_of m) (let a = m.asked in a.arm) (record w { arms = m.falls })) none
               ∙ (λ i. cond (has i) (no_labels (record w { arms = m.falls })) (limited V))))
 
           by : (o : Option ℕ) → first_reason (reasons (event_of m) (record w { arms = m.falls })) ≡ o →
@@ -258,7 +271,8 @@ module _ (hd : Header) (form : HeaderInForm hd) where
               let is = is_so (says (body.Refused c ∷ []) (counted (record w { arms = m.falls })))
               (ap (run_unless (event_of m) (let a = m.asked in a.arm) (record w { arms = m.falls })) refused) in
               keeps_it (moved m w) (ap (λ (y : World). y.nodes) is) (ap (λ (y : World). y.frames) is)
-          by None none = labelled none (lacks_labels (Words.giving (event_of m) (record w { arms = m.falls })) (record w { arms = m.falls })) refl
+          by None none = labelled none
+              (lacks_labels (Words.giving (event_of m) (record w { arms = m.falls })) (record w { arms = m.falls })) refl
 
     -- ---- what it writes
 
@@ -274,7 +288,8 @@ module _ (hd : Header) (form : HeaderInForm hd) where
         (name r.0, r.1, told_doomed hd form g p w s on x.number x.node x.parts x.there x.live r.0 x.branch x.named x.doomed)
 
     -- the action of a commit that was aborted as doomed
-    module _ (l : Label) (rest bodies : List Body) (its_event : event_of m ≡ event.Commit l) (are : bodies ≡ body.Aborted l cause.Doomed ∷ rest)
+    module _ (l : Label) (rest bodies : List Body) (its_event : event_of m ≡ event.Commit l)
+        (are : bodies ≡ body.Aborted l cause.Doomed ∷ rest)
         (free : refused_by_any (event_of m) (counted (record w { arms = m.falls })) ≡ None) (count : (moved m w).event ≡ w.event + 1)
         (lines : w.lines ++ block (w.event + 1) bodies ≡ (limited V).lines) where
       granted : running.Granted hd form m g p w stops s.base on
@@ -285,7 +300,8 @@ module _ (hd : Header) (form : HeaderInForm hd) where
 
       node_free : node_refusal (event.Commit l) (counted (record w { arms = m.falls })) ≡ None
       node_free = ap (λ e. node_refusal e (counted (record w { arms = m.falls }))) (sym its_event)
-          ∙ sym (ap (λ f. joined f (node_refusal (event_of m) (counted (record w { arms = m.falls })))) (same_reasons ∙ granted.none)) ∙ free
+          ∙ sym (ap (λ f. joined f (node_refusal (event_of m) (counted (record w { arms = m.falls })))) (same_reasons ∙ granted.none))
+          ∙ free
 
       -- the action isn't doomed
       module _ (n : Node) (c : Parts) (b : Branch) (there : at_place (node_of l w) w.nodes ≡ Some n) (live : n.live ≡ Some c)
@@ -313,7 +329,8 @@ module _ (hd : Header) (form : HeaderInForm hd) where
               (
                 a.has.0 ++ more.0,
                 same_bodies (w.event + 1) bodies (said.0 ∷ (a.has.0 ++ more.0)) w.lines
-                    (lines ∙ ap (λ e. (limited (happens e (let z = m.asked in z.arm) (counted (record w { arms = m.falls })))).lines) its_event ∙ more.1
+                    (lines ∙ ap (λ e. (limited
+                    (happens e (let z = m.asked in z.arm) (counted (record w { arms = m.falls })))).lines) its_event ∙ more.1
                     ∙ (λ i. (a.lines ∙ ap (λ bs. w.lines ++ numbered (w.event + 1) bs) a.has.1) i ++ numbered (a.event i) more.0)
                     ∙ append_assoc w.lines (numbered (w.event + 1) (said.0 ∷ a.has.0)) (numbered (w.event + 1) more.0)
                     ∙ ap (λ ls. w.lines ++ ls) (sym (blocks (w.event + 1) (said.0 ∷ a.has.0) more.0))),

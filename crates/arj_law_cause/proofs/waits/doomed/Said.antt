@@ -1,10 +1,14 @@
 -- The first lines of what a node writes as a call is given up that waits for its operation, and as a commit is asked.
 use Rattle.arj_law_parts.proofs.Words
-use Words.{◌≡◌, ◌∙◌, ◌-◌, ◌++◌, ℕ, zero, suc, Bool, true, false, cond, List, [], ◌∷◌, Option, Some, None, refl, sym, ap, subst, append_assoc}
-use Words.{actor, at_number, at_place, bodies, cut, handle_all, most_rounds, next_round, node_did, ran, rounds, refusal, step, step_node, steps, step_with}
+use Words.{◌≡◌, ◌∙◌, ◌-◌, ◌++◌, ℕ, zero, suc, Bool, true, false, cond, List, [], ◌∷◌, Option, Some, None, refl, sym, ap, subst}
+use Words.{append_assoc}
+use Words.{actor, at_number, at_place, bodies, cut, handle_all, most_rounds, next_round, node_did, ran, rounds, refusal, step, step_node}
+use Words.{steps, step_with}
 use Words.{whole, with_coord, Arm, Body, Branch, Coord, Doing, Effect, Intent, Kind, Label, Message, Node, Parts, Ran, Say, Uid, World}
-use Words.{branch_named, commit_action, commit_open, commit_top, ended, ends_with, give_up, give_up_doing, gives_up, moved_commit, next_node, on_branch, says, say_for}
-use Words.{doing_of, is_invoke, last_req, plan_for, root_at, root_of, tolds_of, At, AtActivate, AtBind, AtInvoke, AtLoad, AtNote, Calling, Steps, Input}
+use Words.{branch_named, commit_action, commit_open, commit_top, ended, ends_with, give_up, give_up_doing, gives_up, moved_commit}
+use Words.{next_node, on_branch, says, say_for}
+use Words.{doing_of, is_invoke, last_req, plan_for, root_at, root_of, tolds_of, At, AtActivate, AtBind, AtInvoke, AtLoad, AtNote, Calling}
+use Words.{Steps, Input}
 use Words.{aborts_with, give_up_call, given_up, on_root, root_lost, step_call}
 use Words.body
 use Words.cause
@@ -37,7 +41,8 @@ rounds_lead n (suc j) own r f = by r.queue (let more = handle_all n r.queue r.he
     by [] later = f
     by (m ∷ ms) later = later
 
-front_adds : (k : ℕ) (n : Node) (t : Parts) (own : List Body) (es outs : List Effect) → outs ≡ say_all own ++ es → (w : World) (o : Option Arm) →
+front_adds : (k : ℕ) (n : Node) (t : Parts) (own : List Body) (es outs : List Effect) → outs ≡ say_all own ++ es →
+    (w : World) (o : Option Arm) →
     Adds (Fronts own) w (step_with k n (node_did n [] t outs) w o)
 front_adds k n t own es outs is w o = step_adds (Fronts own) k n (node_did n [] t outs) w o (record {
   through = λ j. (bodies k j f.0, ap (bodies k j) f.1 ∙ own_bodies k j own f.0);
@@ -55,7 +60,8 @@ front_adds k n t own es outs is w o = step_adds (Fronts own) k n (node_did n [] 
 
 -- ---- a giveup
 
-gave : (u : Uid) (s : Steps) (c : Coord) (d : Doing) → doing_of u c ≡ Some d → actor s.path ≡ u → (at : At) → is_invoke at ≡ true → s.at ≡ at →
+gave : (u : Uid) (s : Steps) (c : Coord) (d : Doing) → doing_of u c ≡ Some d → actor s.path ≡ u → (at : At) → is_invoke at ≡ true →
+    s.at ≡ at →
     (intents : List (Uid × Intent)) →
     (gives_up u intents c (Calling s)).outs ≡ Say (body.GaveUp d.label (next_node s)) ∷ Say (body.Lost d.label (next_node s)) ∷ []
 gave u s c d does same (AtBind b) is there intents = absurd (cc is)
@@ -121,7 +127,8 @@ module _ (b : Branch) (intents : List (Uid × Intent)) (c : Coord) (q : Doing) (
 
   -- the commit of an action that isn't doomed begins otherwise
   pub commit_plain : b.doomed ≡ false → BeginsPlain (commit_action b intents c).outs
-  commit_plain off = subst (λ x. BeginsPlain (cond x (aborts_with (actor b.path) cause.Doomed intents c) (commit_open b intents c b.kind)).outs)
+  commit_plain off = subst
+      (λ x. BeginsPlain (cond x (aborts_with (actor b.path) cause.Doomed intents c) (commit_open b intents c b.kind)).outs)
       (sym off) (kinds b.kind)
 
 -- ---- worlds
@@ -139,11 +146,13 @@ module _ (w : World) (k : ℕ) (n : Node) (t : Parts) (there : at_place k w.node
 
   -- a giveup of a call that waits for its operation
   pub giveup_says : (l : Label) (b : Branch) → refusal w.header (input.GiveUp l) n ≡ None → branch_named l t.coord ≡ Some b →
-      (d : Doing) (s : Steps) → doing_of (actor b.path) t.coord ≡ Some d → d.now ≡ Calling s → actor s.path ≡ actor b.path → is_invoke s.at ≡ true →
+      (d : Doing) (s : Steps) → doing_of (actor b.path) t.coord ≡ Some d → d.now ≡ Calling s → actor s.path ≡ actor b.path →
+      is_invoke s.at ≡ true →
       Adds (Fronts (body.GaveUp d.label (next_node s) ∷ body.Lost d.label (next_node s) ∷ [])) w (steps k (input.GiveUp l) w)
   giveup_says l b free named d s does now same is =
       let did = give_up (actor b.path) (let x = n.disk in x.intents) t.coord in
-      step_adds_front (body.GaveUp d.label (next_node s) ∷ body.Lost d.label (next_node s) ∷ []) [] did.outs (with_coord t did.part) (input.GiveUp l)
+      step_adds_front (body.GaveUp d.label (next_node s) ∷ body.Lost d.label (next_node s) ∷ []) [] did.outs (with_coord t did.part)
+      (input.GiveUp l)
       (taken (input.GiveUp l) free ∙ ap (λ z. input.coord_did n t
       (on_branch (λ b. give_up (actor b.path) (let x = n.disk in x.intents) t.coord) t.coord z)) named)
       (gave_outs (actor b.path) s t.coord d does now same is (let x = n.disk in x.intents))

@@ -2,7 +2,8 @@
 use Rattle.arj_law_parts.proofs.Words
 use Words.{◌≡◌, ◌⊎◌, ◌∙◌, ◌+◌, ◌-◌, ◌≤◌, ◌==◌, ℕ, zero, suc, Bool, true, false, if◌then◌else◌, List, [], ◌∷◌, ◌++◌, length, Some, refl}
 use Words.{sym, ap, subst, inl, inr, ⊎_elim, arith, nat_tests, nat_lt, slice_get, slice_set, Message, Do, Effect, Say, Send, worked, Disk}
-use Words.{Handled, Here, Parts, Ran, Took, Void, first_done, first_queued, handle_all, most_rounds, next_round, ran, ran_handled, rounds, taken}
+use Words.{Handled, Here, Parts, Ran, Took, Void, first_done, first_queued, handle_all, most_rounds, next_round, ran, ran_handled, rounds}
+use Words.{taken}
 use Words.{whole, Frame, frames_with, most_frames, sends, at_place, set_place, Post}
 use Words.list as members
 use Rattle.arj_law_runs.proofs.resting.Flights.{in_either}

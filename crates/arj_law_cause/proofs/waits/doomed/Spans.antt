@@ -1,9 +1,13 @@
 -- Each request that went to another node has its line, behind the events that can own it.
 use Rattle.arj_law_parts.proofs.Words
-use Words.{◌≡◌, ◌⊎◌, ◌∙◌, ◌+◌, ◌++◌, ◌==◌, ◌≤◌, ℕ, Bool, true, false, cond, if◌then◌else◌, List, [], ◌∷◌, length, Option, Some, None, refl, sym, ap, subst}
-use Words.{inl, inr, ⊎_elim, arith, append_assoc, length-append, and_parts, eqb-true, Ask, Body, Head, Header, Label, Line, Uid, asks, actor, frame_kind}
-use Words.{last_req, again_all, begin_action, tick_outs, Doing, doing_of, Do, Disk, Effect, Say, Send, worked, Parts, with_coord, acts, Input, Branch, is_own}
-use Words.{branch_named, branch_of, at_place, refusal_up, refused_by, call_reasons, include_reasons, commit_reasons, parent_of, parts_in, restart_outs, is_serial, numbered}
+use Words.{◌≡◌, ◌⊎◌, ◌∙◌, ◌+◌, ◌++◌, ◌==◌, ◌≤◌, ℕ, Bool, true, false, cond, if◌then◌else◌, List, [], ◌∷◌, length, Option, Some, None, refl}
+use Words.{sym, ap, subst}
+use Words.{inl, inr, ⊎_elim, arith, append_assoc, length-append, and_parts, eqb-true, Ask, Body, Head, Header, Label, Line, Uid, asks}
+use Words.{actor, frame_kind}
+use Words.{last_req, again_all, begin_action, tick_outs, Doing, doing_of, Do, Disk, Effect, Say, Send, worked, Parts, with_coord, acts}
+use Words.{Input, Branch, is_own}
+use Words.{branch_named, branch_of, at_place, refusal_up, refused_by, call_reasons, include_reasons, commit_reasons, parent_of, parts_in}
+use Words.{restart_outs, is_serial, numbered}
 use Words.{Post}
 use Words.body
 use Words.frame
@@ -59,7 +63,8 @@ said_lined bs M r = record {
     longer n a b c low is = omega (arith, low, is)
 
     further : (n : ℕ) → n ≤ length M.seen.lines → n ≤ length (M.seen.lines ++ numbered M.past.number bs)
-    further n low = longer n (length M.seen.lines) (length (numbered M.past.number bs)) (length (M.seen.lines ++ numbered M.past.number bs)) low
+    further n low = longer n (length M.seen.lines) (length (numbered M.past.number bs))
+        (length (M.seen.lines ++ numbered M.past.number bs)) low
         (length-append M.seen.lines (numbered M.past.number bs))
 
 sent_lined : (p : Post) (M : Moment) → AreLined M → AreLined (sent p M)
@@ -91,7 +96,8 @@ sent_lined p M r = by (p.to == p.from) refl (fits M)
             (q.from ≡ q.to) ⊎ IsLined M.past.askings (let N = framed_if true p M in N.seen.lines) q h) →
             (q : Post) (h : Head) (a : Ask) → In q (p ∷ M.seen.sent) → asks q.message ≡ Some (h, a) →
             (q.from ≡ q.to) ⊎ IsLined M.past.askings (let N = framed_if true p M in N.seen.lines) q h
-        one old q h a (inl is) asking = inr (subst (λ (z : Post). IsLined M.past.askings (let N = framed_if true p M in N.seen.lines) z h) is (new h))
+        one old q h a (inl is) asking = inr
+            (subst (λ (z : Post). IsLined M.past.askings (let N = framed_if true p M in N.seen.lines) z h) is (new h))
         one old q h a (inr i) asking = old q h a i asking
     by false apart false = r
 
@@ -247,9 +253,11 @@ lined_keep hd = record {
     );
     stop = λ k d live M h. (
       wide.steps.stop k d live M h.0,
-      (let s = said_lined (body.Halted k ∷ []) M (record { lined = h.1.lined; asked = h.1.asked }) in record { lined = s.lined; asked = s.asked }),
+      (let s = said_lined (body.Halted k ∷ []) M
+          (record { lined = h.1.lined; asked = h.1.asked }) in record { lined = s.lined; asked = s.asked }),
     );
-    message = λ k d t v from m outs M h there meant may is. both k outs v d M (wide.steps.message k d t v from m outs M h.0 there meant may is)
+    message = λ k d t v from m outs M h there meant may is. both k outs v d M
+        (wide.steps.message k d t v from m outs M h.0 there meant may is)
         (walk k v outs d M (record { lined = h.1.lined; asked = h.1.asked }));
     act = λ k d t i M is brings first asks free h. let did = acts i d.intents t.coord in
         both k did.outs (with_coord t did.part) d (asks_now i t.coord M) (wide.steps.act k d t i M is brings first asks free h.0)

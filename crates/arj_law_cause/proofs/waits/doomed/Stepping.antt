@@ -1,18 +1,24 @@
 -- A node's step in its world: each call that waits for its operation has a frame that asks for it, as long as every frame fits. And what
 -- of coordinators' trees beginnings, ends and uses of objects leave as it is stays.
 use Rattle.arj_law_parts.proofs.Words
-use Words.{◌≡◌, ◌≢◌, ◌⊎◌, ◌∙◌, ◌+◌, ◌-◌, ◌==◌, ◌||◌, ℕ, zero, suc, Bool, true, false, if◌then◌else◌, List, [], ◌∷◌, ◌++◌, length, take, Option, Some, None, IfSome, refl}
-use Words.{sym, ap, subst, inl, inr, ⊎_elim, ⊤, arith, nat_tests, nat_lt, eqb-true, in_right, place_other, taken_took, Ask, Asked, Body, Head, Header, Kind, Label}
-use Words.{Message, Uid, asks, Reply, Effect, Say, Send, Disk, Handled, Parts, Ran, Took, Void, taken, handle, most_rounds, next_round, ran, rounds, whole, with_coord}
-use Words.{again_all, begin_action, tick_outs, heard, Coord, doing_of, Doing, Steps, Input, Node, Step, acts, handled_step, node_did, only_says}
-use Words.{parent_of, parts_in, refusal_at, refusal_up, restart_outs, step, step_unless, void_step, Tree, at_place, begun, new_tree, set_place, Arm, Frame}
+use Words.{◌≡◌, ◌≢◌, ◌⊎◌, ◌∙◌, ◌+◌, ◌-◌, ◌==◌, ◌||◌, ℕ, zero, suc, Bool, true, false, if◌then◌else◌, List, [], ◌∷◌, ◌++◌, length, take}
+use Words.{Option, Some, None, IfSome, refl}
+use Words.{sym, ap, subst, inl, inr, ⊎_elim, ⊤, arith, nat_tests, nat_lt, eqb-true, in_right, place_other, taken_took, Ask, Asked, Body}
+use Words.{Head, Header, Kind, Label}
+use Words.{Message, Uid, asks, Reply, Effect, Say, Send, Disk, Handled, Parts, Ran, Took, Void, taken, handle, most_rounds, next_round, ran}
+use Words.{rounds, whole, with_coord}
+use Words.{again_all, begin_action, tick_outs, heard, Coord, doing_of, Doing, Steps, Input, Node, Step, acts, handled_step, node_did}
+use Words.{only_says}
+use Words.{parent_of, parts_in, refusal_at, refusal_up, restart_outs, step, step_unless, void_step, Tree, at_place, begun, new_tree}
+use Words.{set_place, Arm, Frame}
 use Words.{World, armed, count_works, cut, disarmed, done_step, frames_with, halted_at, halted_outs, most_frames, put, sends, set_node}
 use Words.{step_node, step_with, steps, Post, Seen, see, coord_in, is_invoke}
 use Words.body
 use Words.input
 use Words.list as members
 use Rattle.arj_law_runs.proofs.Terms
-use Terms.{AreBrought, Asking, HasWay, Holds, In, IsGood, KeepsAsked, Up, Walks, at, is_act, place_same, taken_meant, up, want_of_call, AnswersWaits}
+use Terms.{AreBrought, Asking, HasWay, Holds, In, IsGood, KeepsAsked, Up, Walks, at, is_act, place_same, taken_meant, up, want_of_call}
+use Terms.{AnswersWaits}
 use Rattle.arj_journal.specs.ScriptForm.{HeaderInForm}
 use Rattle.arj_law_parts.specs.moves.Keeps.{AsksNode}
 use Rattle.arj_law_promise.proofs.settling.Waiting.{AllKnown, all_answer, all_kept}
@@ -116,9 +122,11 @@ framed_way fs k u s is way = by way.post way.brings way.under_way
         let one = some_is (a.head, a.ask) other.0 (sym a.is ∙ other.1) in
         absurd (five (let x = other.0 in x.1) other.2 (sym (ap (λ (x : Head × Ask). Words.ask_kind x.1) one) ∙ a.kind ∙ kind_of s.at is))
     by p (Answering f t a) (inl framed) = let x = framed.asked in
-        let no_way : ◌≡◌ {A = Option (Asked × Reply)} None (Some _) = sym (asks_no_answer p.message x.0 x.1 framed.asking) ∙ a.is in absurd (cc no_way)
+        let no_way : ◌≡◌ {A = Option (Asked × Reply)} None (Some _) = sym (asks_no_answer p.message x.0 x.1 framed.asking)
+        ∙ a.is in absurd (cc no_way)
     by p (Answering f t a) (inr other) = let x = other.0 in
-        let no_way : ◌≡◌ {A = Option (Asked × Reply)} None (Some _) = sym (asks_no_answer p.message x.0 x.1 other.1) ∙ a.is in absurd (cc no_way)
+        let no_way : ◌≡◌ {A = Option (Asked × Reply)} None (Some _) = sym (asks_no_answer p.message x.0 x.1 other.1)
+        ∙ a.is in absurd (cc no_way)
 
 -- what an input to this node rests on, where these messages were sent
 abbrev pub Comes : Header → List Post → ℕ → Input → Type 0
@@ -177,7 +185,8 @@ module _ (hd : Header) (form : HeaderInForm hd) (P : Tree → Type 0) (hears : (
           by : (z : Bool) → (k == n) ≡ z → AreUnderWay k t.coord (IsUnderWay (frames_with w.frames (sends n outs))) × P t.coord.tree
           by true e =
               let same : k ≡ n = eqb-true k n e in
-              let one : b ≡ x = some_is b x (sym (place_same n b a w.nodes there) ∙ ap (λ j. at_place j (set_place n b w.nodes)) (sym same) ∙ found) in
+              let one : b ≡ x = some_is b x (sym (place_same n b a w.nodes there) ∙ ap (λ j. at_place j (set_place n b w.nodes)) (sym same)
+              ∙ found) in
               let r = its t (ap (λ (y : Node). y.live) one ∙ live) in
               (subst (λ j. AreUnderWay j t.coord (IsUnderWay (frames_with w.frames (sends n outs)))) (sym same) r.0, r.1)
           by false e =
@@ -238,7 +247,8 @@ module _ (hd : Header) (form : HeaderInForm hd) (P : Tree → Type 0) (hears : (
     nothing_left (suc j) r none = λ i. elim (none i) [ [] ↦ r | m ∷ ms ↦ rounds k j (next_round k r) ]
 
     -- an action begins
-    begin_leaves : (d : Disk) (t : Parts) → at_place k w.nodes ≡ Some (record { number = k; disk = d; live = Some t }) → (l : Label) (how : Kind) (parent : Option Label) →
+    begin_leaves : (d : Disk) (t : Parts) → at_place k w.nodes ≡ Some (record { number = k; disk = d; live = Some t }) →
+        (l : Label) (how : Kind) (parent : Option Label) →
         Leaves w k (Words.coord_did (record { number = k; disk = d; live = Some t }) t (acts (input.Begin l how parent) d.intents t.coord))
     begin_leaves d t there l how parent =
         let did = begin_action l how parent (parent_of parent t.coord) t.coord in
@@ -248,8 +258,11 @@ module _ (hd : Header) (form : HeaderInForm hd) (P : Tree → Type 0) (hears : (
         (λ fits x is. let same = some_is v x is in (
           subst (λ (y : Parts). AreUnderWay k y.coord (IsUnderWay (frames_with w.frames (sends k did.outs)))) same
               (landed k did.part w.frames did.outs (says_none _) fits
-              (gone_on k t.coord did.part did.outs (IsUnderWay w.frames) (begins_go l how parent t.coord did.outs) (z.calls k (record { number = k; disk = d; live = Some t }) t there refl))),
-          subst (λ (y : Parts). P y.coord.tree) same (begins how (parent_of parent t.coord) t.coord.tree (z.trees k (record { number = k; disk = d; live = Some t }) t there refl)),
+              (gone_on k t.coord did.part did.outs (IsUnderWay w.frames) (begins_go l how parent t.coord did.outs)
+              (z.calls k (record { number = k; disk = d; live = Some t }) t there refl))),
+          subst (λ (y : Parts). P y.coord.tree) same
+              (begins how (parent_of parent t.coord) t.coord.tree
+              (z.trees k (record { number = k; disk = d; live = Some t }) t there refl)),
         ))
 
     begin_node : (l : Label) (how : Kind) (parent : Option Label) (d : Disk) (live : Option Parts) →
@@ -325,7 +338,8 @@ module _ (hd : Header) (form : HeaderInForm hd) (P : Tree → Type 0) (hears : (
         ((q : Post) → G q → F q) → ((b : Body) → Words.IsSaid M.lines b → B b) → Inner (up n d t M).nodes F B →
         Left Inner n (record { disk = d; parts = t }) M.nodes G B (taken n d t from m)
     inner_message n d t from m M holds sent F G B under less back lines its =
-        by (taken n d t from m) refl (message_brings hd (λ N. AllKnown hd N × IsGood N) gives homes (λ j. j ≡ k) n d t from m M holds sent F G B less lines its.0)
+        by (taken n d t from m) refl
+        (message_brings hd (λ N. AllKnown hd N × IsGood N) gives homes (λ j. j ≡ k) n d t from m M holds sent F G B less lines its.0)
       where
         same : (v : Parts) (outs : List Effect) (j : ℕ) →
             coords (with_here n (record { disk = works outs d; parts = v }) M.nodes) j ≡ ways.put n v.coord (coords (up n d t M).nodes) j
@@ -342,11 +356,14 @@ module _ (hd : Header) (form : HeaderInForm hd) (P : Tree → Type 0) (hears : (
           where
             here : (b : Bool) → (k == n) ≡ b →
                 coord_in (if b then Some (record { number = n; disk = works outs d; live = Some v }) else M.nodes k) ≡ Some c → P c.tree
-            here true e is = subst (λ (x : Coord). P x.tree) (some_is v.coord c is) (tree_left n d t v from m outs (taken_took n d t v from m outs so)
+            here true e is = subst (λ (x : Coord). P x.tree) (some_is v.coord c is)
+                (tree_left n d t v from m outs (taken_took n d t v from m outs so)
                 (its.1 t.coord (λ i. coord_in (if e i then Some (record { number = n; disk = d; live = Some t }) else M.nodes k))))
-            here false e is = its.1 c ((λ i. coord_in (if e i then Some (record { number = n; disk = d; live = Some t }) else M.nodes k)) ∙ is)
+            here false e is = its.1 c ((λ i. coord_in (if e i then Some (record { number = n; disk = d; live = Some t }) else M.nodes k))
+                ∙ is)
 
-        by : (r : Handled) → taken n d t from m ≡ r → Brought hd (λ N. AllKnown hd N × IsGood N) gives homes (λ j. j ≡ k) n (coords (up n d t M).nodes) G B r →
+        by : (r : Handled) → taken n d t from m ≡ r →
+            Brought hd (λ N. AllKnown hd N × IsGood N) gives homes (λ j. j ≡ k) n (coords (up n d t M).nodes) G B r →
             Left Inner n (record { disk = d; parts = t }) M.nodes G B r
         by (Void outs) so b = (b, its.1)
         by (Took v outs) so b = (
@@ -368,12 +385,15 @@ module _ (hd : Header) (form : HeaderInForm hd) (P : Tree → Type 0) (hears : (
         let q = whole k v outs d in
         let base = nodes_in w in
         let F : Post → Type 0 = IsUnderWay w.frames in
-        let first = to_brought k v.coord (coords (with_here k (record { disk = works outs d; parts = v }) base)) (Then F k outs) (λ p o. inl (inr o))
+        let first = to_brought k v.coord (coords (with_here k (record { disk = works outs d; parts = v }) base)) (Then F k outs)
+        (λ p o. inl (inr o))
         (here (works outs d) v) its in
-        let all = whole_keeps hd Known keeps Inner inner_grows inner_message k w.event base d v outs (see known.sent w) F (λ b. ⊤) refl walks
+        let all = whole_keeps hd Known keeps Inner inner_grows inner_message k w.event base d v outs (see known.sent w) F
+        (λ b. ⊤) refl walks
         (λ b l. tt) (first, λ c at. subst (λ (x : Coord). P x.tree) (some_is v.coord c (sym (here (works outs d) v) ∙ at)) tree) in
         let same = some_is q.here.parts t is in
-        let at_end : coords (with_here k q.here base) k ≡ Some t.coord = here q.here.disk q.here.parts ∙ ap (λ (x : Parts). Some x.coord) same in
+        let at_end : coords (with_here k q.here base) k ≡ Some t.coord = here q.here.disk q.here.parts
+        ∙ ap (λ (x : Parts). Some x.coord) same in
         let ways = from_brought k t.coord (coords (with_here k q.here base)) (Then F k q.outs) _ at_end all.0 in (
           landed k t.coord w.frames (before ++ q.outs) (none_both k before q.outs silent (whole_none k v outs d)) fits
               (ways_to k t.coord (Then F k q.outs) (Then F k (before ++ q.outs))
@@ -408,7 +428,8 @@ module _ (hd : Header) (form : HeaderInForm hd) (P : Tree → Type 0) (hears : (
 
       message_leaves : (j from : ℕ) (m : Message) → In (post_of from k m) known.sent →
           Leaves w k (handled_step j (record { number = k; disk = d; live = Some t }) (taken k d t from m))
-      message_leaves j from m sent = by (taken k d t from m) refl (message_brings hd (λ N. AllKnown hd N × IsGood N) gives homes (λ i. i ≡ k) k d t from m
+      message_leaves j from m sent = by (taken k d t from m) refl
+          (message_brings hd (λ N. AllKnown hd N × IsGood N) gives homes (λ i. i ≡ k) k d t from m
           (see known.sent w) its_known sent (IsUnderWay w.frames) (IsUnderWay w.frames) (λ b. ⊤) (λ q f. inr f) (λ b l. tt)
           (to_brought k t.coord (coords (up k d t (see known.sent w)).nodes) (IsUnderWay w.frames) (λ p o. inr o) here its_calls))
         where
@@ -416,27 +437,33 @@ module _ (hd : Header) (form : HeaderInForm hd) (P : Tree → Type 0) (hears : (
           here = λ i. coord_in (if same_number k i then Some (record { number = k; disk = d; live = Some t }) else nodes_in w k)
 
           by : (r : Handled) → taken k d t from m ≡ r →
-              Brought hd (λ N. AllKnown hd N × IsGood N) gives homes (λ i. i ≡ k) k (coords (up k d t (see known.sent w)).nodes) (IsUnderWay w.frames) (λ b. ⊤) r →
+              Brought hd (λ N. AllKnown hd N
+              × IsGood N) gives homes (λ i. i ≡ k) k (coords (up k d t (see known.sent w)).nodes) (IsUnderWay w.frames) (λ b. ⊤) r →
               Leaves w k (handled_step j (record { number = k; disk = d; live = Some t }) r)
           by (Void outs) so b = stays_so (void_step j (record { number = k; disk = d; live = Some t }) outs) refl
           by (Took v outs) so b = whole_leaves d (Some t) there v (Say (body.Got j) ∷ []) outs (says_none k w z (body.Got j))
-              (keeps.message w.event k d t v from m outs (see known.sent w) its_known sent (taken_meant k d t v from m outs so) (taken_took k d t v from m outs so))
-              (from_brought k v.coord (ways.put k v.coord (coords (up k d t (see known.sent w)).nodes)) (Then (IsUnderWay w.frames) k outs) (λ b. ⊤)
+              (keeps.message w.event k d t v from m outs (see known.sent w) its_known sent (taken_meant k d t v from m outs so)
+              (taken_took k d t v from m outs so))
+              (from_brought k v.coord (ways.put k v.coord (coords (up k d t (see known.sent w)).nodes)) (Then (IsUnderWay w.frames) k outs)
+              (λ b. ⊤)
               (λ i. if same_number k i then Some v.coord else coords (up k d t (see known.sent w)).nodes k) b)
               (tree_left k d t v from m outs (taken_took k d t v from m outs so) its_tree)
 
       act_leaves : (i : Input) → is_act i ≡ true → AsksNode hd i → refusal_up hd i t.coord ≡ None → Acts d t i →
           Leaves w k (Words.coord_did (record { number = k; disk = d; live = Some t }) t (acts i d.intents t.coord))
       act_leaves i is asks_node free may = let did = acts i d.intents t.coord in
-          whole_leaves d (Some t) there (with_coord t did.part) [] did.outs (no_sends k w z) (keeps.act w.event k d t i (see known.sent w) is asks_node free its_known)
+          whole_leaves d (Some t) there (with_coord t did.part) [] did.outs (no_sends k w z)
+          (keeps.act w.event k d t i (see known.sent w) is asks_node free its_known)
           (gone_on k t.coord did.part did.outs (IsUnderWay w.frames) (acts_go i d.intents t.coord is) its_calls) (may is free its_tree)
 
       tick_leaves : Leaves w k (Words.tick_step (record { number = k; disk = d; live = Some t }) t)
       tick_leaves =
           let r = again_all t.coord.doings t.coord in
           let outs = tick_outs (record { number = k; disk = d; live = Some t }) t in
-          whole_leaves d (Some t) there (with_coord t r.part) [] outs (no_sends k w z) (keeps.tick w.event k d t (see known.sent w) its_known)
-          (gone_on k t.coord r.part outs (IsUnderWay w.frames) (again_goes t.coord outs) its_calls) (subst P (sym (again_tree t.coord.doings t.coord)) its_tree)
+          whole_leaves d (Some t) there (with_coord t r.part) [] outs (no_sends k w z)
+          (keeps.tick w.event k d t (see known.sent w) its_known)
+          (gone_on k t.coord r.part outs (IsUnderWay w.frames) (again_goes t.coord outs) its_calls)
+          (subst P (sym (again_tree t.coord.doings t.coord)) its_tree)
 
       up_leaves : (i : Input) → Comes hd known.sent k i → Acts d t i → refusal_up hd i t.coord ≡ None →
           Leaves w k (Words.step_up i (record { number = k; disk = d; live = Some t }) t)
@@ -459,7 +486,8 @@ module _ (hd : Header) (form : HeaderInForm hd) (P : Tree → Type 0) (hears : (
     down_leaves d there (input.Frame j from m) = λ fits x is. absurd (cc is)
     down_leaves d there input.Restart =
         let v = parts_in k (d.inc + 1) d in
-        whole_leaves d None there v [] (restart_outs hd k (d.inc + 1) d) (no_sends k w z) (keeps.restart w.event k d (see known.sent w) (seen_at d None there))
+        whole_leaves d None there v [] (restart_outs hd k (d.inc + 1) d) (no_sends k w z)
+        (keeps.restart w.event k d (see known.sent w) (seen_at d None there))
         (λ u q s does now is. absurd (none_there u q does)) (fresh k (d.inc + 1))
       where
         none_there : (u : Uid) (q : Doing) → doing_of u (let v = parts_in k (d.inc + 1) d in v.coord) ≡ Some q → ⊥
@@ -480,7 +508,8 @@ module _ (hd : Header) (form : HeaderInForm hd) (P : Tree → Type 0) (hears : (
     down_leaves d there (input.GiveUp l) = λ fits x is. absurd (cc is)
 
     node_leaves : (i : Input) → Comes hd known.sent k i → MayAct k w i → (d : Disk) (live : Option Parts) →
-        at_place k w.nodes ≡ Some (record { number = k; disk = d; live = live }) → Leaves w k (step hd (record { number = k; disk = d; live = live }) i)
+        at_place k w.nodes ≡ Some (record { number = k; disk = d; live = live }) →
+        Leaves w k (step hd (record { number = k; disk = d; live = live }) i)
     node_leaves i comes may d None there = by (refusal_at hd i None)
       where
         by : (r : Option ℕ) → Leaves w k (step_unless hd i (record { number = k; disk = d; live = None }) r)
@@ -489,7 +518,8 @@ module _ (hd : Header) (form : HeaderInForm hd) (P : Tree → Type 0) (hears : (
     node_leaves i comes may d (Some t) there = by (refusal_up hd i t.coord) refl
       where
         by : (r : Option ℕ) → refusal_up hd i t.coord ≡ r → Leaves w k (step_unless hd i (record { number = k; disk = d; live = Some t }) r)
-        by (Some c) is = same_leaves k w z d (Some t) there (only_says (record { number = k; disk = d; live = Some t }) (body.Refused c)) refl
+        by (Some c) is = same_leaves k w z d (Some t) there
+            (only_says (record { number = k; disk = d; live = Some t }) (body.Refused c)) refl
         by None is = up_leaves d t there i comes (λ act free. may (record { number = k; disk = d; live = Some t }) t there refl act free) is
 
     pub steps_stand : (i : Input) → Comes hd known.sent k i → MayAct k w i → (steps k i w).full ≡ false → Stands (steps k i w)

@@ -1,10 +1,14 @@
 -- Event by event: each call that waits for its operation has asked another node for it by a frame, as long as every frame fits.
 use Rattle.arj_law_parts.proofs.Words
-use Words.{◌≡◌, ◌∙◌, ◌==◌, ◌&&◌, ◌||◌, not, ℕ, zero, suc, Bool, true, false, cond, if◌then◌else◌, List, [], ◌∷◌, ◌++◌, length, Option, Some, None, refl, sym}
-use Words.{ap, subst, inl, inr, nat_le, nat_lt, Asked, Event, Header, Kind, Uid, Intent, Reply, heard, Coord, Branch, Tree, begun, new_tree, Arm, Frame}
+use Words.{◌≡◌, ◌∙◌, ◌==◌, ◌&&◌, ◌||◌, not, ℕ, zero, suc, Bool, true, false, cond, if◌then◌else◌, List, [], ◌∷◌, ◌++◌, length, Option, Some}
+use Words.{None, refl, sym}
+use Words.{ap, subst, inl, inr, nat_le, nat_lt, Asked, Event, Header, Kind, Uid, Intent, Reply, heard, Coord, Branch, Tree, begun, new_tree}
+use Words.{Arm, Frame}
 use Words.{Giving, Input, World, as_delivered, as_lost, at_place, begins, change_frame, deliver, deliver_frame, first_reason}
-use Words.{frame_number, happens, is_node, is_quiet, is_up_at, junk_fits, kind_below, labels_unless, lose_frame, lowest, most_frames, new_frame}
-use Words.{node_numbers, node_of, quiesce, reasons, refused_at, set_place, settle, settle_for, show_all, show_up, steps, tick_all, tick_up, Post}
+use Words.{frame_number, happens, is_node, is_quiet, is_up_at, junk_fits, kind_below, labels_unless, lose_frame, lowest, most_frames}
+use Words.{new_frame}
+use Words.{node_numbers, node_of, quiesce, reasons, refused_at, set_place, settle, settle_for, show_all, show_up, steps, tick_all, tick_up}
+use Words.{Post}
 use Words.body
 use Words.event
 use Words.input
@@ -67,7 +71,8 @@ module _ (hd : Header) (form : HeaderInForm hd) (P : Tree → Type 0) (hears : (
   marked_stands : (k : ℕ) (mark : Frame → Frame) (f : Frame) (w : World) → at_place k w.frames ≡ Some f →
       ((p : Post) → IsFrameOf f p → IsFrameOf (mark f) p) → Stands w → Stands (change_frame k mark f w)
   marked_stands k mark f w there same z = record {
-    calls = λ j a t at live. ways_to j t.coord (IsUnderWay w.frames) (IsUnderWay (set_place k (mark f) w.frames)) under (z.calls j a t at live);
+    calls = λ j a t at live. ways_to j t.coord (IsUnderWay w.frames) (IsUnderWay (set_place k (mark f) w.frames)) under
+        (z.calls j a t at live);
     trees = z.trees;
   }
     where
@@ -123,12 +128,14 @@ module _ (hd : Header) (form : HeaderInForm hd) (P : Tree → Type 0) (hears : (
   ticks_full [] w is = is
   ticks_full (n ∷ ns) w is = tick_full n w (ticks_full ns (tick_up n w) is)
 
-  ticks_stand : (ns : List ℕ) (w : World) → Knows w → Stands w → (tick_all ns w).full ≡ false → Knows (tick_all ns w) × Stands (tick_all ns w)
+  ticks_stand : (ns : List ℕ) (w : World) → Knows w → Stands w → (tick_all ns w).full ≡ false →
+      Knows (tick_all ns w) × Stands (tick_all ns w)
   ticks_stand [] w h z free = (h, z)
   ticks_stand (n ∷ ns) w h z free = let one = by (w.full || not (is_up_at n w)) (ticks_full ns (tick_up n w) free) in
       ticks_stand ns (tick_up n w) one.0 one.1 free
     where
-      by : (b : Bool) → (cond b w (steps n input.Tick w)).full ≡ false → Knows (cond b w (steps n input.Tick w)) × Stands (cond b w (steps n input.Tick w))
+      by : (b : Bool) → (cond b w (steps n input.Tick w)).full ≡ false →
+          Knows (cond b w (steps n input.Tick w)) × Stands (cond b w (steps n input.Tick w))
       by true free = (h, z)
       by false free = (
         steps_hold hd (λ M. AllKnown hd M × IsGood M) keeps n input.Tick w h tt,
@@ -174,7 +181,8 @@ module _ (hd : Header) (form : HeaderInForm hd) (P : Tree → Type 0) (hears : (
       shows_full [] v is = is
       shows_full (m ∷ ms) v is = show_full m v (shows_full ms (show_up x m v) is)
 
-      by : (b : Bool) → (cond b (steps n (input.Show x) w) w).full ≡ false → Knows (cond b (steps n (input.Show x) w) w) × Stands (cond b (steps n (input.Show x) w) w)
+      by : (b : Bool) → (cond b (steps n (input.Show x) w) w).full ≡ false →
+          Knows (cond b (steps n (input.Show x) w) w) × Stands (cond b (steps n (input.Show x) w) w)
       by true free = (
         steps_hold hd (λ M. AllKnown hd M × IsGood M) keeps n (input.Show x) w h tt,
         plain_stands n (input.Show x) w h refl tt z free,
@@ -201,7 +209,8 @@ module _ (hd : Header) (form : HeaderInForm hd) (P : Tree → Type 0) (hears : (
     where
       by : (r : Option ℕ) → (steps g.node (input.Begin g.label g.kind g.parent) (labels_unless g w r)).full ≡ false →
           Stands (steps g.node (input.Begin g.label g.kind g.parent) (labels_unless g w r))
-      by None free = Stepping.begins_stand hd form P hears begins_so fresh g.node (labels_unless g w None) (record { calls = z.calls; trees = z.trees })
+      by None free = Stepping.begins_stand hd form P hears begins_so fresh g.node (labels_unless g w None)
+          (record { calls = z.calls; trees = z.trees })
           h.stands.header h.stands.numbers g.label g.kind g.parent free
       by (Some c) free = Stepping.begins_stand hd form P hears begins_so fresh g.node w z h.stands.header h.stands.numbers g.label g.kind g.parent free
 
@@ -233,8 +242,10 @@ module _ (hd : Header) (form : HeaderInForm hd) (P : Tree → Type 0) (hears : (
   happens_stand (event.Stop n c how) a w h none may z free = record { calls = z.calls; trees = z.trees }
   happens_stand (event.Junk n bytes) a w h none may z free = junk_stands n w (nat_lt (length w.frames) most_frames) z
   happens_stand (event.Show x) a w h none may z free = shown_stand x (node_numbers w) w h z free
-  happens_stand (event.Begin l n) a w h none may z free = begun_stands (record { label = l; kind = kind.Top; parent = None; node = n }) w h z free
-  happens_stand (event.Serial l n) a w h none may z free = begun_stands (record { label = l; kind = kind.Serial; parent = None; node = n }) w h z free
+  happens_stand (event.Begin l n) a w h none may z free = begun_stands
+      (record { label = l; kind = kind.Top; parent = None; node = n }) w h z free
+  happens_stand (event.Serial l n) a w h none may z free = begun_stands
+      (record { label = l; kind = kind.Serial; parent = None; node = n }) w h z free
   happens_stand (event.BeginIn l p) a w h none may z free =
       begun_stands (record { label = l; kind = kind_below p w; parent = Some p; node = node_of p w }) w h z free
   happens_stand (event.Top l p) a w h none may z free =
