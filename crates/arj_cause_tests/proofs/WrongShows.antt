@@ -106,6 +106,10 @@ copy_value = refl
 copy_alone : copies goes_on (instead 1 (body.Halted 1) (instead 2 (body.Copy 2 1 0 (u 1 2 4) (bytes 7)) shown)) ≡ []
 copy_alone = refl
 
+-- of a node that halted none stands
+copy_down : copies goes_on (instead 1 (body.Halted 2) shown) ≡ 2 ∷ []
+copy_down = refl
+
 -- ---- a fresh run
 
 exclusion_so : entries fresh exclusion ++ copies fresh exclusion ≡ []

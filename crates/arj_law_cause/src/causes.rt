@@ -71,8 +71,8 @@ pub fn ends_have_causes()
 {}
 
 /// In every such run a line `entry` stands in a show of its object, with the object's entry as the lines before the event say, counted from
-/// where the run began. A line `copy` stands in a show of its object; of a store that is listed, where the event has shown the entry, it is
-/// the last state so counted. It does nothing when it runs.
+/// where the run began. A line `copy` stands in a show of its object, of a node that is up; of a store that is listed, where the event has
+/// shown the entry, it is the last state so counted. It does nothing when it runs.
 pub fn shows_have_causes()
     ensures entries { TestHolds is_entry_so is_entry_shown }
     ensures copies { TestHolds is_copy_so is_copy_shown }

@@ -4,7 +4,7 @@ use Rattle.arj_law_parts.proofs.Words
 use Words.{◌≡◌, ◌⊎◌, ◌≤◌, ◌∙◌, ◌+◌, ◌==◌, ◌&&◌, ◌||◌, ◌++◌, not, ℕ, zero, suc, Bool, true, false, cond, List, [], ◌∷◌, length, refl, sym}
 use Words.{ap, subst, arith, eqb-true, inl, inr, ⊎_elim, Option, Some, None, is_some, list_all, and_parts, map, take}
 use Words.{AllByRecursion, append_assoc, append-nil, uid_same, Body, Event, Header, Kind, Label, Line, Start, Uid, Arm, World}
-use Words.{Node, ObjectState, counted, entry, first_reason, happens, holder_of, limited, node_numbers}
+use Words.{Node, ObjectState, counted, numbered, entry, first_reason, happens, holder_of, limited, node_numbers}
 use Words.{at_place, show_all, state_entry, entry_back, world_from, Move, all_moved, moved, see, class_at, class_in, world_by}
 use Words.body
 use Words.cause
@@ -31,6 +31,7 @@ use Rattle.arj_model.specs.CauseNodes.{is_state, shows_object}
 use Rattle.arj_model.specs.CauseSpans.{Here, behind, here_at}
 use Rattle.arj_model.specs.Follows.{Runs}
 use Rattle.arj_model.specs.Last.{entry_from, is_among, last_from, listed, object_line, same_list, servers_of_line}
+use Rattle.arj_model.specs.Refusals.{is_down}
 use Rattle.arj_model.specs.Own.{AreAborted, AreGiveUps, Ends, aborted_of, commit_line}
 use Rattle.arj_model.specs.Past.{Along, Past, at_start, block, next}
 use Rattle.arj_promise.specs.Runs.{AreMovesInForm, AreStopsInForm, IsInForm, IsStoppedInForm, Run, journal_by, most_events}
@@ -40,7 +41,7 @@ use Rattle.std.specs.Prelude.{drop}
 use Rattle.std.proofs.Math.Seq.{drop-append_seam, take-append_seam}
 use Rattle.arj_law_cause.proofs.follow.lines.Events as events
 use Rattle.arj_law_cause.proofs.follow.lines.{Saying.list_both, Showing.shows_all}
-use Rattle.arj_law_cause.proofs.kinds.Held.{IsHeldCopy, IsHeldEntry, IsHeldLine, ShowsHeld, held_all}
+use Rattle.arj_law_cause.proofs.kinds.Held.{AreUpLines, IsHeldCopy, IsHeldEntry, IsHeldLine, IsUpLine, ShowsHeld, held_all}
 use Rattle.arj_law_cause.specs.follow.lines.Lines.{BeginsCommitSo, BeginsSo, HasLines, LinesStep, is_show, may_stand_or_lose}
 use Rattle.arj_law_cause.specs.kinds.Kinds.{is_copy_shown, is_entry_shown}
 use Rattle.arj_law_cause.specs.kinds.Rows.{TestHolds, TestedStep, tested}
@@ -172,13 +173,13 @@ EntrySo hd st e before x v servers stores =
     shows_object x e && (((entry_from hd st.marks before x).version == v)
     && (same_list (servers_of_line (object_line hd x)) servers && same_list (listed hd before x) stores))
 
-abbrev CopySo : Header → Start → Event → List Line → List Line → ℕ → ℕ → ℕ → Uid → List ℕ → Bool
-CopySo hd st e before after n x v u payload =
-    shows_object x e && (not (is_among (listed hd before x) n)
-    || (not (shows_entry after) || is_state v u payload (last_from hd st.marks before x)))
+abbrev CopySo : Header → Start → Event → List Line → List Line → List Line → ℕ → ℕ → ℕ → Uid → List ℕ → Bool
+CopySo hd st e before after lines n x v u payload =
+    shows_object x e && (not (is_down st lines n) && (not (is_among (listed hd before x) n)
+    || (not (shows_entry after) || is_state v u payload (last_from hd st.marks before x))))
 
 -- where nodes stand at their places and files are clean
-module _ (hd : Header) (w t : World) (x : ℕ) (places : (n : ℕ) (m : Node) → at_place n w.nodes ≡ Some m → m.number ≡ n)
+module _ (hd : Header) (w t : World) (x e : ℕ) (places : (n : ℕ) (m : Node) → at_place n w.nodes ≡ Some m → m.number ≡ n)
     (nodes : t.nodes ≡ w.nodes) (clean : IsCleanIn hd w.lines x (see [] w)) where
   abbrev Entry_now : ObjectState
   Entry_now = entry_from hd w.start.marks w.lines x
@@ -236,10 +237,11 @@ module _ (hd : Header) (w t : World) (x : ℕ) (places : (n : ℕ) (m : Node) �
       by b held ih on = ih on
 
   copy_held : (ms : List Line) → AllHeld ms → (n y v : ℕ) (u : Uid) (payload : List ℕ) → IsHeldCopy x t n y v u payload →
-      CopySo hd w.start (event.Show x) w.lines ms n y v u payload ≡ true
-  copy_held ms all n y v u payload h =
-      (λ i. CopySo hd w.start (event.Show x) w.lines ms n (h.shows i) (h.version i) (h.writer i) (h.content i))
-      ∙ (λ i. same_number x i && listed_so (is_among (listed hd w.lines x) n) refl i)
+      is_down w.start (w.lines ++ ms) n ≡ false →
+      CopySo hd w.start (event.Show x) w.lines ms (w.lines ++ ms) n y v u payload ≡ true
+  copy_held ms all n y v u payload h up =
+      (λ i. CopySo hd w.start (event.Show x) w.lines ms (w.lines ++ ms) n (h.shows i) (h.version i) (h.writer i) (h.content i))
+      ∙ (λ i. same_number x i && (not (up i) && listed_so (is_among (listed hd w.lines x) n) refl i))
     where
       at : n ≡ h.at
       at = h.number ∙ places h.at h.node (in_world h.at h.node h.there)
@@ -271,6 +273,7 @@ module _ (hd : Header) (w t : World) (x : ℕ) (places : (n : ℕ) (m : Node) �
     pub event : h.event ≡ event.Show x
     pub first : h.first ≡ length w.lines
     pub lines : h.lines ≡ w.lines ++ ms
+    pub number : h.number ≡ e
 
   before_is : (h : Here) (ms : List Line) → IsHere h ms → take h.first h.lines ≡ w.lines
   before_is h ms is = (λ i. take (is.first i) (is.lines i)) ∙ take-append_seam w.lines ms
@@ -284,12 +287,12 @@ module _ (hd : Header) (w t : World) (x : ℕ) (places : (n : ℕ) (m : Node) �
       (λ i. EntrySo (is.header i) (is.start i) (is.event i) (before_is h ms is i) y v servers stores) ∙ entry_held y v servers stores held
   entry_at h ms is b held = refl
 
-  copy_at : (h : Here) (ms : List Line) → IsHere h ms → AllHeld ms → (b : Body) → IsHeldLine x t b →
+  copy_at : (h : Here) (ms : List Line) → IsHere h ms → AllHeld ms → (b : Body) → IsHeldLine x t b → IsUpLine w.start (w.lines ++ ms) b →
       tested is_copy_so (λ g. is_copy_shown) h b ≡ true
-  copy_at h ms is all (body.Copy n y v u payload) held =
-      (λ i. CopySo (is.header i) (is.start i) (is.event i) (before_is h ms is i) (after_is h ms is i) n y v u payload)
-      ∙ copy_held ms all n y v u payload held
-  copy_at h ms is all b held = refl
+  copy_at h ms is all (body.Copy n y v u payload) held up =
+      (λ i. CopySo (is.header i) (is.start i) (is.event i) (before_is h ms is i) (after_is h ms is i) (is.lines i) n y v u payload)
+      ∙ copy_held ms all n y v u payload held up
+  copy_at h ms is all b held up = refl
 
   further : (h : Here) (ms : List Line) (b : Body) → IsHere h ms → IsHere (behind h b) (ms ++ record { event = h.number; body = b } ∷ [])
   further h ms b is = record {
@@ -299,17 +302,21 @@ module _ (hd : Header) (w t : World) (x : ℕ) (places : (n : ℕ) (m : Node) �
     first = is.first;
     lines = (λ i. is.lines i ++ record { event = h.number; body = b } ∷ []) ∙ append_assoc w.lines ms
         (record { event = h.number; body = b } ∷ []);
+    number = is.number;
   }
 
   pub shown_so : (h : Here) (ms : List Line) (bs : List Body) → IsHere h ms → AllHeld ms → AllByRecursion (IsHeldLine x t) bs →
+      AreUpLines w.start e (w.lines ++ ms) bs →
       (are_so (tested is_entry_so (λ g. is_entry_shown)) h bs ≡ true) × (are_so (tested is_copy_so (λ g. is_copy_shown)) h bs ≡ true)
-  shown_so h ms [] is all held = (refl, refl)
-  shown_so h ms (b ∷ bs) is all held =
+  shown_so h ms [] is all held ups = (refl, refl)
+  shown_so h ms (b ∷ bs) is all held ups =
       let l : Line = record { event = h.number; body = b } in
       let r = shown_so (behind h b) (ms ++ l ∷ []) bs (further h ms b is)
-      (all_append (λ (k : Line). IsHeldLine x t k.body) ms (l ∷ []) all (held.0, tt)) held.1 in (
+      (all_append (λ (k : Line). IsHeldLine x t k.body) ms (l ∷ []) all (held.0, tt)) held.1
+      (subst (λ ls. AreUpLines w.start e ls bs) ((λ i. (w.lines ++ ms) ++ numbered (sym is.number i) (b ∷ []))
+      ∙ append_assoc w.lines ms (l ∷ [])) ups.1) in (
         (λ i. entry_at h ms is b held.0 i && r.0 i),
-        (λ i. copy_at h ms is all b held.0 i && r.1 i),
+        (λ i. copy_at h ms is all b held.0 ups.0 i && r.1 i),
       )
 
 -- an object with a class has its line
@@ -413,20 +420,29 @@ module _ (hd : Header) (form : HeaderInForm hd) (st : Start) (formed : IsFormed 
     show_both : (x : ℕ) (bodies : List Body) → refused_by_any (event.Show x) t ≡ None →
         w.lines ++ block t.event bodies ≡ (limited (show_all x (node_numbers t) t)).lines → Both p (event.Show x) bodies
     show_both x bodies none lines few =
-        shown_so hd w t x (λ n q there. (let b = base.placed in b.nodes n q there).1) refl (clean_now p w s few x (object_there x none))
+        shown_so hd w t x t.event places refl (clean_now p w s few x (object_there x none))
         (here_at hd p (event.Show x) bodies) [] bodies (record {
           header = refl;
           start = start;
           event = refl;
           first = ap length base.lines;
           lines = base.lines ∙ sym (append-nil w.lines);
+          number = λ i. base.count i + 1;
         }) tt (subst (AllByRecursion (IsHeldLine x t)) (sym are) held.has)
+        (subst (λ ls. AreUpLines w.start t.event ls bodies) (sym (append-nil w.lines))
+        (subst (AreUpLines w.start t.event w.lines) (sym are) held.ups))
       where
+        places : (n : ℕ) (q : Node) → at_place n w.nodes ≡ Some q → q.number ≡ n
+        places n q there = (let b = base.placed in b.nodes n q there).1
+
+        live : (j : ℕ) (q : Node) → at_place j w.nodes ≡ Some q → is_some q.live ≡ true → is_down w.start w.lines j ≡ false
+        live j q there up = (λ i. is_down (sym start i) (sym base.lines i) j) ∙ (let z = base.tells in z.ups j q there) ∙ ap not up
+
         v : World
         v = show_all x (node_numbers t) t
 
-        held : ShowsHeld x t v
-        held = held_all x t (node_numbers t)
+        held : ShowsHeld w.start x t v
+        held = held_all w.start x t places live (node_numbers t)
 
         whole : limited v ≡ v
         whole = let r = shows_all x (node_numbers t) t base.few in

@@ -9,6 +9,7 @@ use Rattle.arj_model.specs.CauseNodes.{is_state, shows_object}
 use Rattle.arj_model.specs.CauseSpans.{Here, act_by, holds_in}
 use Rattle.arj_model.specs.Caused.{has_cause}
 use Rattle.arj_model.specs.Last.{entry_from, is_among, last_from, listed, object_line, same_list, servers_of_line}
+use Rattle.arj_model.specs.Refusals.{is_down}
 use Rattle.arj_law_cause.specs.kinds.Kinds.{is_entry_shown}
 
 -- `told`. The action ended so, by the lines before.
@@ -32,11 +33,11 @@ is_entry_so h _ = true
 abbrev pub shows_entry : List Line → Bool
 shows_entry lines = list_any (λ line. is_entry_shown line.body) lines
 
--- `copy`. The event shows the object; and of a store that is listed, where the event has shown the entry, which no prepared action names
--- then, it is the last state by the lines before the event, counted from where the run began.
+-- `copy`. The event shows the object, and the node is up; and of a store that is listed, where the event has shown the entry, which no
+-- prepared action names then, it is the last state by the lines before the event, counted from where the run began.
 abbrev pub is_copy_so : Here → Body → Bool
 is_copy_so h (body.Copy n x v u payload) =
     let before = take h.first h.lines in
-    shows_object x h.event && (not (is_among (listed h.header before x) n)
-    || (not (shows_entry (drop h.first h.lines)) || is_state v u payload (last_from h.header h.start.marks before x)))
+    shows_object x h.event && (not (is_down h.start h.lines n) && (not (is_among (listed h.header before x) n)
+    || (not (shows_entry (drop h.first h.lines)) || is_state v u payload (last_from h.header h.start.marks before x))))
 is_copy_so h _ = true

@@ -69,7 +69,7 @@ pub record TellsWorld (hd : Header) (st : Start) (es : List Event) (journal : Li
   pub quiet : HaveCauses is_quiet hd st es journal
   -- an entry is shown as the lines before the event say, counted from where the run began
   pub entries : Runs (TestedStep is_entry_so (λ h. is_entry_shown) hd) st es journal
-  -- and, where it was, a listed store shows the last state so counted
+  -- a node shows a state while it is up; and where the entry was shown a listed store's is the last one so counted
   pub copies : Runs (TestedStep is_copy_so (λ h. is_copy_shown) hd) st es journal
 
 -- What a journal says of why it is so, by subject.
