@@ -3,6 +3,7 @@ pub mod Worked
 pub mod Rare
 pub mod Rarer
 mod Answers
+mod Doomed
 mod Followed
 mod Formats
 mod Halts
