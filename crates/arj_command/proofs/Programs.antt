@@ -1,7 +1,8 @@
 -- What a run of client programs shows.
 use Rattle.std.proofs.Common.{◌≡◌, ℕ, ◌≤◌, List, [], ◌∷◌, length, refl, sym, ◌∙◌, ap, subst, arith, Option}
 use Rattle.std.specs.List.{AllByRecursion}
-use Rattle.std.specs.Prelude.{String, get_or}
+use Rattle.std.specs.Prelude.{String, get_or, take}
+use Rattle.std.proofs.Math.Seq.{take-length}
 use Rattle.std.specs.declared.alloc.Global.{Global}
 use Rattle.arj_command.proofs.Causes.{Laws}
 use Rattle.arj_command.proofs.Shows.{behind_none, facts_of}
@@ -19,15 +20,22 @@ use Rattle.arj_law_nodes.proofs.nodes.Ending.{promises_stay}
 use Rattle.arj_law_nodes.specs.nodes.Last.{EndsBehind}
 use Rattle.arj_law_nodes.specs.nodes.Readings.{Reads}
 use Rattle.arj_law_nodes.specs.nodes.Turns.{RunsShow}
+use Rattle.arj_law_programs.specs.Alone.{RunsAsAlone}
+use Rattle.arj_law_programs.specs.Counts.{CallsAreThose}
+use Rattle.arj_law_programs.specs.Laws.{CallsSurvive, IsRunOf, ProgramsRunAlone}
 use Rattle.arj_loop.specs.Replayed.{Outside, answer}
+use Rattle.arj_model.specs.Last.{first_values}
+use Rattle.arj_model.specs.Serial.{Serial}
 use Rattle.arj_nodes.specs.AllNodes.{task}
 use Rattle.arj_nodes.specs.AsMachine.{all_nodes}
 use Rattle.arj_nodes.specs.declared.all_nodes.AllNodes.{AllNodes}
 use Rattle.arj_prog.specs.declared.plan.Plan.{Plan}
 use Rattle.arj_programs.specs.Outcome.{RunsPrograms}
-use Rattle.arj_programs.specs.Runs.{EndsBy, Ran, no_labels}
+use Rattle.arj_programs.specs.Runs.{EndsBy, Left, Ran, RanPlan, left, no_labels}
 use Rattle.arj_progrun.specs.Alone.{MeansItsCalls}
 use Rattle.arj_progrun.specs.Schedule.{Given, Schedule, Standing}
+use Rattle.arj_progrun.specs.declared.report.ReportLine.{ReportLine}
+use Rattle.arj_promise.specs.Runs.{Move, from_format, journal_by}
 use Rattle.arj_world.specs.Stands.{hand}
 
 -- ---- words
@@ -68,6 +76,53 @@ module _ {C D : Type 0} (c : core.Ghosts C) (d : disk.Ghosts D) (read : Reads) (
       (promises_stay d read t nodes.over r.lines journal rack last
       (show t nodes.over (hand nodes.world rack r.lines) (record { header = r.header_form; events = r.form; few = few }) r.ran))
 
+  -- What was run of a plan, as a run of the protocol: its journal, and its trace.
+  record IsPlanRun (plan : Plan) (trace : List Given) (journal : List Line) : Type 0 where
+    pub moves : List Move
+    pub run : IsRunOf plan.header moves trace
+    pub journal_is : journal ≡ journal_by plan.header (from_format plan.header moves)
+
+  plan_run : (plan : Plan) (first : List D) (now : Left D (AllNodes C)) (told : List ReportLine) (r : RanPlan (all_nodes c d) plan first now told) →
+      IsPlanRun plan (let s = r.drives in s.trace) now.journal
+  plan_run plan first now told r =
+      let q = r.run in
+      let s = r.drives in
+      let h = s.stepped in
+      let few : length q.events ≤ 1000000 = let most = q.few in omega (arith, most) in
+      let moved = laws.moves (task first plan.header q.events) (let n = r.machine in n.over) (hand (let n = r.machine in n.world) now.rack q.lines)
+      (record { header = q.header_form; events = q.form; few = few }) q.ran in
+      record {
+        moves = moved.moves;
+        run = record {
+          form = moved.form;
+          events = sym h.events ∙ sym (take-length q.events) ∙ (λ i. take (moved.event i) (sym moved.are i));
+          journal = sym h.journal ∙ moved.journal;
+          numbered = h.numbered;
+        };
+        journal_is = r.journal ∙ moved.journal;
+      }
+
+  -- the calls that count of programs that committed are the surviving calls of their tops
+  calls_survive : CallsSurvive → (plan : Plan) (first : List D) (now : Left D (AllNodes C)) (told : List ReportLine)
+      (r : RanPlan (all_nodes c d) plan first now told) →
+      AllByRecursion (CallsAreThose now.journal) (let s = r.drives in let e = s.end in e.clients)
+  calls_survive survive plan first now told r =
+      let s = r.drives in
+      let p = plan_run plan first now told r in
+      subst (λ ls. AllByRecursion (CallsAreThose ls) (let e = s.end in e.clients)) (sym p.journal_is)
+      (survive plan.header p.moves plan s.trace s.end (r.some, r.few) s.schedule p.run)
+
+  -- and they did what they do alone
+  run_alone : ProgramsRunAlone → (plan : Plan) (first : List D) (now : Left D (AllNodes C)) (told : List ReportLine)
+      (r : RanPlan (all_nodes c d) plan first now told) → Serial (first_values plan.header) now.journal →
+      AllByRecursion (RunsAsAlone plan.header now.journal) (let s = r.drives in let e = s.end in e.clients)
+  run_alone alone plan first now told r serial =
+      let s = r.drives in
+      let p = plan_run plan first now told r in
+      subst (λ ls. AllByRecursion (RunsAsAlone plan.header ls) (let e = s.end in e.clients)) (sym p.journal_is)
+      (alone plan.header p.moves plan s.trace s.end (r.some, r.few) s.schedule p.run
+      (subst (Serial (first_values plan.header)) p.journal_is serial))
+
   -- what stands behind the lines of events at a limit
   ends_behind : (w : Which) (header : Header) (nodes : AllNodes C) (rack : List D) (lines journal : List Line) →
       EndsBy (all_nodes c d) w header nodes rack lines journal → EndsBehind lines journal
@@ -76,19 +131,23 @@ module _ {C D : Type 0} (c : core.Ghosts C) (d : disk.Ghosts D) (read : Reads) (
   ends_behind which.Labels header nodes rack lines journal (going, full, is) = (no_labels _ ∷ [], refl, is)
   ends_behind which.Lines header nodes rack lines journal never = absurd never
 
-  pub programs_headline : RunsShow c d read → ProgramsMeanTheirCalls →
+  pub programs_headline : RunsShow c d read → ProgramsMeanTheirCalls → CallsSurvive → ProgramsRunAlone →
       (before after : Outside D) (says : Said C) (nodes : Option (AllNodes C)) →
       RunsPrograms (all_nodes c d) before after (answer says.status says.why says.journal nodes) → says.world ≡ world_of nodes →
       ProgramsHeadline c d read (around before after) says
-  programs_headline show mean before after says nodes run world = record {
+  programs_headline show mean survive alone before after says nodes run world = record {
     nodes = nodes;
     run = run;
     world_is = world;
-    whole = λ plan told r. record {
-      facts = ran_facts show before.rack plan.header r.machine after.rack r.run says.journal
-          (subst (λ ls. EndsBehind (let q = r.run in q.lines) ls) (sym r.journal) (behind_none c d (let q = r.run in q.lines)));
-      alone = let s = r.drives in mean plan s.trace s.end s.schedule;
-    };
+    whole = λ plan told r.
+        let facts = ran_facts show before.rack plan.header r.machine after.rack r.run says.journal
+        (subst (λ ls. EndsBehind (let q = r.run in q.lines) ls) (sym r.journal) (behind_none c d (let q = r.run in q.lines))) in
+        record {
+          facts = facts;
+          alone = let s = r.drives in mean plan s.trace s.end s.schedule;
+          survive = calls_survive survive plan before.rack (left after.rack says.journal nodes) told r;
+          each = run_alone alone plan before.rack (left after.rack says.journal nodes) told r (let p = facts.promise in let s = p.serial in s.0);
+        };
     limited = λ header r. ran_facts show before.rack header r.machine after.rack r.run says.journal
         (ends_behind r.which header r.machine after.rack (let q = r.run in q.lines) says.journal r.ends);
     short = λ header r. ran_facts show before.rack header r.machine r.mid r.run (let q = r.run in q.lines)

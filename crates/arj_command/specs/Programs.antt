@@ -7,6 +7,8 @@ use Rattle.arj_core.specs.declared.node.Core as core
 use Rattle.arj_disk.specs.declared.disk.Disk as disk
 use Rattle.arj_journal.specs.declared.header.Header.{Header}
 use Rattle.arj_law_nodes.specs.nodes.Readings.{Reads}
+use Rattle.arj_law_programs.specs.Alone.{RunsAsAlone}
+use Rattle.arj_law_programs.specs.Counts.{CallsAreThose}
 use Rattle.arj_loop.specs.Replayed.{answer}
 use Rattle.arj_nodes.specs.AllNodes.{task}
 use Rattle.arj_nodes.specs.AsMachine.{all_nodes}
@@ -17,12 +19,17 @@ use Rattle.arj_programs.specs.Runs.{Left, MetLimit, RanPlan, WasLeft, left}
 use Rattle.arj_progrun.specs.Alone.{MeansItsCalls}
 use Rattle.arj_progrun.specs.declared.report.ReportLine.{ReportLine}
 
--- What was run of a plan to its schedule's end: what the events show by their journal and the disks; and of each program that
--- committed, that the calls which count are those that its statements make alone.
+-- What was run of a plan to its schedule's end: what the events show by their journal and the disks; and of each program that committed,
+-- what it did.
 pub record ShowsPlan {C D : Type 0} (c : core.Ghosts C) (d : disk.Ghosts D) (read : Reads) (plan : Plan) (first : List D)
     (now : Left D (AllNodes C)) (told : List ReportLine) (r : RanPlan (all_nodes c d) plan first now told) : Type 0 where
   pub facts : Facts c d read (task first plan.header (let q = r.run in q.events)) (behind r.machine now.rack now.journal)
+  -- the calls that count of it are those that its statements make alone, wherever they get these answers
   pub alone : AllByRecursion MeansItsCalls (let s = r.drives in let e = s.end in e.clients)
+  -- they are the surviving calls of its top in the journal, in order, with the same answers
+  pub survive : AllByRecursion (CallsAreThose (let n = now in n.journal)) (let s = r.drives in let e = s.end in e.clients)
+  -- and in the serial order of the journal's calls it did what it does alone, behind all that stand before it
+  pub each : AllByRecursion (RunsAsAlone (let p = plan in p.header) (let n = now in n.journal)) (let s = r.drives in let e = s.end in e.clients)
 
 -- what was run to a limit: the same of its events
 abbrev pub ShowsLimit : {C D : Type 0} (c : core.Ghosts C) (d : disk.Ghosts D) → Reads → (header : Header) (first : List D)

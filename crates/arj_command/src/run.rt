@@ -23,6 +23,7 @@ use arj_io::{Sink, Source};
 use arj_journal::Lines;
 use arj_law_cause::{journals_are_in_form, journals_tell_their_causes};
 use arj_law_nodes::{banks_show_what_is_promised, nodes_run_moves, nodes_show_what_is_promised};
+use arj_law_programs::{committed_programs_run_alone, committed_programs_survive};
 use arj_loop::{BadLine, replay};
 use arj_nodes::AllNodes;
 use arj_programs::run_programs;
@@ -125,6 +126,8 @@ pub fn run_on<S: Source, K: Sink, D: Disk, O: ObjectStore, C: Core + Drop>(
     nodes_show_what_is_promised::<C, D>();
     banks_show_what_is_promised::<C, D>();
     programs_mean_their_calls();
+    committed_programs_survive();
+    committed_programs_run_alone();
     let mut nodes = None;
     let status = run_command::<S, K, D, O, C>(
         alloc, words, source, sink, rack, journal, why, found, &mut nodes,

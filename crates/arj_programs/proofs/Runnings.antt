@@ -1,5 +1,5 @@
 -- Plans that are run on a machine.
-use Rattle.std.proofs.Common.{◌≡◌, ◌∙◌, ◌<◌, ◌+◌, ◌⊎◌, inl, inr, ℕ, zero, suc, List, [], ◌∷◌, ◌++◌, length, refl, sym, ap, subst}
+use Rattle.std.proofs.Common.{◌≡◌, ◌∙◌, ◌<◌, ◌≤◌, ◌+◌, ◌⊎◌, inl, inr, ℕ, zero, suc, List, [], ◌∷◌, ◌++◌, length, refl, sym, ap, subst}
 use Rattle.std.proofs.Common.{arith, true, false, Some}
 use Rattle.std.specs.List.{AllByRecursion}
 use Rattle.std.specs.Prelude.{Err, IsErrOf}
@@ -12,6 +12,7 @@ use Rattle.arj_journal.specs.declared.event.Event.{Event}
 use Rattle.arj_journal.specs.declared.step.StepFault.TheVariants as step_fault
 use Rattle.arj_journal.specs.declared.header.Header.{Header}
 use Rattle.arj_loop.specs.declared.machine.Machine.{Ghosts}
+use Rattle.arj_prog.specs.declared.limits.TheConstants.{PROGRAMS}
 use Rattle.arj_prog.specs.declared.plan.Plan.{Plan}
 use Rattle.arj_loop.specs.Limits.{EndsAtFrames}
 use Rattle.arj_programs.specs.Runs.{HasEnded, IsRunning, MetLimit, Ran, RanPlan, WasLeft, left, no_labels}
@@ -166,10 +167,13 @@ module _ {D M : Type 0} (m : Ghosts M D) where
     few = omega (arith, ap length events);
   }
 
-  pub ran_plan : (plan : Plan) (first : List D) (d : Driven M) (rack : List D) (told : List ReportLine) →
+  pub ran_plan : (plan : Plan) (first : List D) (d : Driven M) (rack : List D) (told : List ReportLine) → 0 < length plan.programs →
+      length plan.programs ≤ PROGRAMS →
       IsRunning m first plan.header d rack → Drives (bare plan) (stepping d.events d.journal (m.steps d.machine)) told →
       RanPlan m plan first (left rack d.journal (Some d.machine)) told
-  ran_plan plan first d rack told running drives = record {
+  ran_plan plan first d rack told some few running drives = record {
+    some = some;
+    few = few;
     machine = d.machine;
     machine_is = refl;
     run = ran_so_far first plan.header d rack running;

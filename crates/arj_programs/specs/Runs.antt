@@ -1,5 +1,5 @@
 -- Runs of client programs on a machine.
-use Rattle.std.specs.Prelude.{ℕ, ◌≡◌, ◌≤◌, ◌⊎◌, List, [], ◌∷◌, ◌++◌, length, true, false, Option, Some, None}
+use Rattle.std.specs.Prelude.{ℕ, ◌≡◌, ◌<◌, ◌≤◌, ◌⊎◌, List, [], ◌∷◌, ◌++◌, length, true, false, Option, Some, None}
 use Rattle.std.specs.List.{AllByRecursion}
 use Rattle.arj_journal.specs.ScriptForm.{EventInForm, HeaderInForm}
 use Rattle.arj_journal.specs.declared.body.Body.TheVariants as body
@@ -11,6 +11,7 @@ use Rattle.arj_journal.specs.declared.header.Header.{Header}
 use Rattle.arj_loop.specs.Limits.{EndsAtFrames}
 use Rattle.arj_loop.specs.declared.limits.TheConstants.{MOST_EVENTS}
 use Rattle.arj_loop.specs.declared.machine.Machine.{Ghosts}
+use Rattle.arj_prog.specs.declared.limits.TheConstants.{PROGRAMS}
 use Rattle.arj_prog.specs.declared.plan.Plan.{Plan}
 use Rattle.arj_programs.specs.declared.driven.Driven.{Driven}
 use Rattle.arj_progrun.specs.Driving.{Drives}
@@ -37,8 +38,11 @@ pub record Ran {D M : Type 0} (m : Ghosts M D) (first : List D) (header : Header
   pub form : AllByRecursion EventInForm events
   pub few : length events ≤ MOST_EVENTS
 
--- The whole schedule of a plan was run, and this is told of it: the events were those of the schedule by their journal.
+-- The whole schedule of a plan was run, which has programs, and no more than it may have, and this is told of it: the events were those of
+-- the schedule by their journal.
 pub record RanPlan {D M : Type 0} (m : Ghosts M D) (plan : Plan) (first : List D) (now : Left D M) (told : List ReportLine) : Type 0 where
+  pub some : 0 < length plan.programs
+  pub few : length plan.programs ≤ PROGRAMS
   pub machine : M
   pub machine_is : now.machine ≡ Some machine
   pub run : Ran m first plan.header machine now.rack

@@ -80,4 +80,8 @@ impl<D: Disk, M: Machine<D>> Nodes<Rack<D>> for Driven<M> {
         }
         &lines[self.before..]
     }
+
+    fn steps(&self, _on: &Rack<D>) -> u32 {
+        self.machine.stepped()
+    }
 }

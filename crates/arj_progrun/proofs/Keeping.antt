@@ -31,11 +31,11 @@ chosen : (P : Client → Type 0) (b : Bool) (c d : Client) → (b ≡ true → P
 chosen P true c d f g = f refl
 chosen P false c d f g = g
 
-first_true : (a b : Bool) → (a && b) ≡ true → a ≡ true
+pub first_true : (a b : Bool) → (a && b) ≡ true → a ≡ true
 first_true true b e = refl
 first_true false b e = e
 
-same_phase : (p q : Phase) → is_phase p q ≡ true → q ≡ p
+pub same_phase : (p q : Phase) → is_phase p q ≡ true → q ≡ p
 same_phase phase.Beginning phase.Beginning e = refl
 same_phase phase.Calling phase.Calling e = refl
 same_phase phase.Committing phase.Committing e = refl
@@ -45,7 +45,7 @@ same_phase phase.Committed phase.Committed e = refl
 same_phase _ _ e = let never : true ≡ false = sym e in cc
 
 -- where it waits so, it stands so
-waits_so : (p : Phase) (label : List ℕ) (c : Client) → waits p label c ≡ true → c.phase ≡ p
+pub waits_so : (p : Phase) (label : List ℕ) (c : Client) → waits p label c ≡ true → c.phase ≡ p
 waits_so p label c e = same_phase p c.phase (first_true (is_phase p c.phase) _ e)
 
 -- what holds where it stands so

@@ -1,15 +1,14 @@
 // What the schedule gives its events to.
-ghost use Rattle.std.specs.Prelude.{◌≡◌, ◌<◌, ⊤, ℕ, List, OnOk, IsErrOf};
+ghost use Rattle.std.specs.Prelude.{◌≡◌, ◌<◌, ℕ, List, OnOk, IsErrOf};
 ghost use Rattle.arj_journal.specs.Stepping.{EndsWithLimit};
 ghost use Rattle.arj_journal.specs.declared.body.Line.{Line};
 ghost use Rattle.arj_journal.specs.declared.body.Which.{Which as which_type};
 ghost use Rattle.arj_journal.specs.declared.event.Event.{Event as script_event};
 ghost use Rattle.arj_journal.specs.declared.header.Header.{Header as script_header};
 ghost use Rattle.arj_journal.specs.declared.step.StepFault.TheVariants as step_fault;
-ghost use Rattle.arj_progrun.specs.Stepped.{Stepped, Stepping, stepping, written};
+ghost use Rattle.arj_progrun.specs.Stepped.{Stepped, Stepping, written};
 
-use arj_journal::{Event, Line, Lines, StepFault, Stepper};
-use std::alloc::Global;
+use arj_journal::{Event, Line, StepFault};
 
 /// The nodes to which a schedule gives its events, over what they run on.
 pub trait Nodes<R> {
@@ -45,46 +44,8 @@ pub trait Nodes<R> {
     /// The lines of the last event.
     fn lines(&self) -> &[Line]
         ensures { result.now ≡ last self.now };
-}
 
-/// The lines of a stepper's last event.
-#[derive(Drop)]
-pub struct LastLines {
-    alloc: Global,
-    lines: Lines,
-}
-
-impl LastLines {
-    /// No event was stepped.
-    pub fn new(alloc: Global) -> LastLines {
-        LastLines {
-            alloc,
-            lines: Lines::new(alloc),
-        }
-    }
-}
-
-impl<S: Stepper> Nodes<S> for LastLines {
-    ghost stepped = { λ _ s. stepping (S.events s) (S.journal s) (S.steps s) };
-
-    ghost last = { λ l. l.lines };
-
-    ghost takes = { λ _. ⊤ };
-
-    ghost stands = { λ _ _ _ _. ⊤ };
-
-    ghost ended = { λ _ _ _ _ _. ⊤ };
-
-    ghost left = { λ _ _ _. ⊤ };
-
-    fn step(&mut self, event: &Event, on: &mut S) -> Result<(), StepFault> {
-        let mut lines = Lines::new(self.alloc);
-        on.step(event, &mut lines)?;
-        self.lines = lines;
-        Ok(())
-    }
-
-    fn lines(&self) -> &[Line] {
-        self.lines.as_slice()
-    }
+    /// How many events were stepped.
+    fn steps(&self, on: &R) -> u32
+        ensures { result ≡ (let s = stepped self.now on.now in s.steps) };
 }

@@ -1,5 +1,5 @@
 // Programs that are driven by their schedule.
-ghost use Rattle.std.specs.Prelude.{◌≡◌, ◌≤◌, ◌<◌, ◌+◌, ℕ, List, [], false, length, vec_len, OnOk, IfOk, IsErrOf};
+ghost use Rattle.std.specs.Prelude.{◌≡◌, ◌≤◌, ◌<◌, ◌+◌, ℕ, List, [], false, length, true, vec_len, OnOk, IfOk, IsErrOf};
 ghost use Rattle.arj_journal.specs.Stepping.{EndsWithLimit};
 ghost use Rattle.arj_journal.specs.declared.body.Line.{Line};
 ghost use Rattle.arj_journal.specs.declared.body.Which.{Which as which_type};
@@ -9,16 +9,23 @@ ghost use Rattle.arj_prog.specs.declared.limits.TheConstants.{TURNS};
 ghost use Rattle.arj_progrun.specs.Driving.{Drives, EndsAt, IsDriven, IsEnded, Stands, StandsOn, StopsAt, Takes, moment};
 ghost use Rattle.arj_progrun.specs.Kept.{AreWithin, standing_of};
 ghost use Rattle.arj_progrun.specs.Schedule.{are_over, lines_heard};
-ghost use Rattle.arj_progrun.specs.Stepped.{HasStepped, Stepped, stepping, written};
+ghost use Rattle.arj_progrun.specs.Stepped.{HasStepped, Stepped, are_of, written};
 
-use crate::nodes::{LastLines, Nodes};
+use crate::nodes::Nodes;
 use crate::report::{Report, report};
 use crate::schedule::{Given, Schedule};
-use arj_journal::{Event, StepFault, Stepper};
+use arj_journal::{Event, Line, StepFault};
 use arj_prog::Plan;
 use std::alloc::Global;
 
-// Steps an event, and lets the programs take its lines.
+// Whether lines are of the event with this number.
+fn are_of(lines: &[Line], event: u32) -> bool
+    ensures { result ≡ are_of event lines.now }
+{
+    lines.iter().all(|line| line.event == event)
+}
+
+// Steps an event, and lets the programs take its lines, if they have its number.
 fn step<R, N: Nodes<R>>(
     schedule: &mut Schedule,
     event: &Event,
@@ -30,7 +37,7 @@ fn step<R, N: Nodes<R>>(
     requires takes { N.takes event.now }
     requires stands { Stands N.Nodes (moment nodes.old on.old) }
     ensures steps { OnOk result ((lines : List Line) × Stepped (written event.now lines) (N.stepped nodes.old on.old) (N.stepped nodes.new on.new)
-        × (standing_of schedule.new ≡ lines_heard by lines (standing_of schedule.old))) }
+        × (are_of (let s = N.stepped nodes.new on.new in s.steps) lines ≡ true) × (standing_of schedule.new ≡ lines_heard by lines (standing_of schedule.old))) }
     ensures within { OnOk result ((turn : ℕ) → AreWithin turn schedule.old → AreWithin turn schedule.new) }
     ensures nodes { OnOk result (schedule.new.nodes ≡ schedule.old.nodes) }
     ensures long { OnOk result (vec_len schedule.new.clients ≡ vec_len schedule.old.clients) }
@@ -39,6 +46,9 @@ fn step<R, N: Nodes<R>>(
     ensures memory { IsErrOf result step_fault.Memory → StopsAt N.Nodes (moment nodes.old on.old) (moment nodes.new on.new) }
 {
     nodes.step(event, on)?;
+    if !are_of(nodes.lines(), nodes.steps(on)) {
+        return Err(StepFault::Memory);
+    }
     schedule.hear(nodes.lines(), by)?;
     Ok(())
 }
@@ -125,17 +135,4 @@ pub fn drive_on<R, N: Nodes<R>>(
     all_turns(&mut schedule, plan, nodes, on)?;
     step(&mut schedule, &Event::Quiesce, None, nodes, on)?;
     Ok(report(alloc, &schedule)?)
-}
-
-/// Runs the programs of a plan by its schedule on a stepper that has stepped no event, and tells what became of them. Limit: an
-/// event met this limit, and the stepper's journal says so last. Memory: memory is wanting, the stepper's or the call's own.
-pub fn drive<S: Stepper>(alloc: Global, plan: &Plan, stepper: &mut S) -> Result<Report, StepFault>
-    requires fresh { HasStepped [] (stepping (S.events stepper.old) (S.journal stepper.old) (S.steps stepper.old)) }
-    requires nodes { 0 < (let p = plan.now in let h = p.header in h.nodes) }
-    requires turns { (let p = plan.now in p.turns) ≤ TURNS }
-    requires programs { (0 < length (let p = plan.now in p.programs)) × (length (let p = plan.now in p.programs) < 256) }
-    ensures drives { IfOk result (λ told. Drives plan.now (stepping (S.events stepper.new) (S.journal stepper.new) (S.steps stepper.new)) told) }
-    ensures limit { (which : which_type) → IsErrOf result (step_fault.Limit which) → EndsWithLimit which (S.journal stepper.new) }
-{
-    drive_on::<S, LastLines>(alloc, plan, &mut LastLines::new(alloc), stepper)
 }

@@ -40,6 +40,7 @@ returns-clause-programs g c read says is =
     let after = outside (g.S.Source.left c.run_command-status.new.source) (g.S.Source.faults c.run_command-status.new.source)
     (g.K.Sink.taken c.run_command-status.new.sink) c.run_command-status.new.rack in
     programs_headline g.C.Core g.D.Disk read (laws_by c.nodes_run_moves.ensures.runs c.journals_tell_their_causes.ensures.runs c.journals_are_in_form.ensures.runs c.journals_are_in_form.ensures.fresh)
-    (c.nodes_show_what_is_promised.ensures.runs read says) c.programs_mean_their_calls.ensures before after
+    (c.nodes_show_what_is_promised.ensures.runs read says) c.programs_mean_their_calls.ensures
+    c.committed_programs_survive.ensures.runs c.committed_programs_run_alone.ensures.runs before after
     (said c.run_command-status.result c.run_command-status.new.why c.run_command-status.new.journal c.world_of.result)
     c.run_command-status.new.nodes (c.run_command-status.ensures.programs is) c.world_of.ensures

@@ -21,7 +21,7 @@ returns-in-Ok-told-clause-told g c =
     (subst (λ h. g.M.Machine.ran c.args.rack.now h [] c.format.new.rack [] c.in-Ok.made) header made.0))
     (ap g.M.Machine.over c.new-driven.ensures.machine ∙ made.2) in
     ran_plan g.M.Machine c.args.plan c.args.rack.now d c.drive_on-told.new.on c.in-Ok-told.report
-    (c.in-Ok-told.ensures.stands c.args.rack.now c.args.plan.header first)
+    (let fit = c.requires.fit in fit.some) (let fit = c.requires.fit in fit.few) (c.in-Ok-told.ensures.stands c.args.rack.now c.args.plan.header first)
     (subst (λ p. Drives p (stepping d.events d.journal
     (g.M.Machine.steps d.machine)) c.in-Ok-told.report) c.take_header-header.ensures.left c.in-Ok-told.ensures.drives)
 
