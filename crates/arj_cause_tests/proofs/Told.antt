@@ -1,32 +1,29 @@
 -- What each field of a journal's causes, and of its form, refuses: a line of an event behind those before it, and lines of whole runs that are changed.
-use Rattle.std.specs.Prelude.{◌≡◌, ◌<◌, ◌^◌, refl, ℕ, ◌+◌, List, [], ◌∷◌, ◌++◌, length, Bool, codes, if◌then◌else◌}
+use Rattle.std.specs.Prelude.{◌≡◌, ◌<◌, ◌^◌, refl, ℕ, List, [], ◌∷◌, Bool, codes}
 use Rattle.std.proofs.Common.{arith}
 use Rattle.arj_base.specs.declared.mode.Mode.TheVariants.{Exclude}
-use Rattle.arj_base.specs.declared.mode.End.TheVariants.{Abort, Commit}
+use Rattle.arj_base.specs.declared.mode.End.TheVariants.{Commit}
 use Rattle.arj_class.specs.declared.op.Op.TheVariants as op
 use Rattle.arj_journal.specs.declared.body.Body.{Body}
 use Rattle.arj_journal.specs.declared.body.Body.TheVariants as body
 use Rattle.arj_journal.specs.declared.body.Difference.TheVariants as difference
 use Rattle.arj_journal.specs.declared.body.FrameKind.TheVariants as frame
-use Rattle.arj_journal.specs.declared.body.Part.TheVariants as part
 use Rattle.arj_journal.specs.declared.body.Role.TheVariants as role
 use Rattle.arj_journal.specs.declared.body.Which.TheVariants as which
 use Rattle.arj_journal.specs.declared.event.Event.TheVariants as event
-use Rattle.arj_journal.specs.declared.header.Header.{Header}
-use Rattle.arj_model.specs.CauseSpans.{Here, behind, here_at}
-use Rattle.arj_model.specs.Past.{Past, next, nothing_yet}
+use Rattle.arj_model.specs.CauseSpans.{Here}
+use Rattle.arj_model.specs.Past.{Past, nothing_yet}
 use Rattle.arj_law_cause.specs.form.Form.{AreInForm}
-use Rattle.arj_law_cause.specs.kinds.Kinds.{is_abort_done, is_armed, is_commit_done, is_copy_shown, is_dropped, is_entry_shown}
-use Rattle.arj_law_cause.specs.kinds.Kinds.{is_found, is_got, is_halted, is_limit, is_opening, is_quiet, is_sent, is_told}
-use Rattle.arj_law_cause.specs.kinds.Kinds.{is_up, is_void}
-use Rattle.arj_law_cause.specs.kinds.Rows.{row, tested}
-use Rattle.arj_law_cause.specs.kinds.Tests.{is_copy_so, is_entry_so, is_told_so}
+use Rattle.arj_law_cause.specs.kinds.Kinds.{is_armed, is_commit_done, is_dropped, is_found, is_got, is_halted, is_limit, is_opening}
+use Rattle.arj_law_cause.specs.kinds.Kinds.{is_quiet, is_sent, is_up, is_void}
+use Rattle.arj_law_cause.specs.kinds.Rows.{row}
 use Rattle.arj_law_cause.specs.rows.Lines.{answer_fits}
 use Rattle.arj_law_cause.specs.waits.replies.Ends.{RepliesStep}
-use Rattle.arj_cause_tests.proofs.Words.{Run, Wrote, after, end_from, instead, l, of_other_event, run, u, without}
+use Rattle.arj_cause_tests.proofs.Words.{Run, after, end_from, instead, l, of_other_event, run, u, without}
 use Rattle.arj_cause_tests.proofs.Worked.{conflict, exclusion, inclusion, naming_stopped, nested_abort, rebinding, stop_at_decision_done}
 use Rattle.arj_cause_tests.proofs.Rarer.{conflict_pending}
 use Rattle.arj_cause_tests.proofs.WrongEvents.{begins, two_nodes}
+use Rattle.arj_cause_tests.proofs.WrongShows.{failing_from}
 
 -- `follows` is `Follows` of `arj_model`: `WrongRuns.antt` has journals that it refuses, by computation
 
@@ -41,16 +38,6 @@ replies : RepliesStep two_nodes begun event.Settle (body.Ok (l 65) 1 (op.Add 1) 
 replies s = s.0.0
 
 -- ---- lines that don't pass a test
-
--- the places of those lines of an event that don't pass it, from 1
-abbrev failing_in : (Here → Body → Bool) → Here → List Body → List ℕ
-failing_in test h [] = []
-failing_in test h (b ∷ rest) = if test h b then failing_in test (behind h b) rest else (length h.lines + 1) ∷ failing_in test (behind h b) rest
-
--- the same over events
-abbrev failing_from : (Here → Body → Bool) → Header → Past → List Wrote → List ℕ
-failing_from test header past [] = []
-failing_from test header past (w ∷ rest) = failing_in test (here_at header past w.0 w.1) w.1 ++ failing_from test header (next past w.0 w.1) rest
 
 -- the places of the lines of a run that don't pass it
 abbrev failing : (Here → Body → Bool) → Run → List ℕ
@@ -105,18 +92,6 @@ found = refl
 done : failing_of is_commit_done (after 17 (body.Done 2 (u 1 1 1) role.Store Commit ∷ []) exclusion) ≡ 18 ∷ []
 done = refl
 
--- `undone`: it hasn't ended
-undone : failing_of is_abort_done (after 17 (body.Done 2 (u 1 1 1) role.Store Abort ∷ []) exclusion) ≡ 18 ∷ []
-undone = refl
-
--- `told`: it isn't committed
-told : failing (tested is_told_so (λ h. is_told)) (instead 41 (body.Told 3 (u 1 1 1) Commit part.Server) rebinding) ≡ 41 ∷ []
-told = refl
-
--- it is open
-told_open : failing (tested is_told_so (λ h. is_told)) (instead 12 (body.Told 1 (u 1 1 1) Abort part.Server) nested_abort) ≡ 12 ∷ []
-told_open = refl
-
 -- `sent`: not the next number
 sent : failing_of is_sent (run two_nodes ((event.Settle, body.Sent 2 1 2 frame.Bind ∷ []) ∷ [])) ≡ 1 ∷ []
 sent = refl
@@ -141,16 +116,7 @@ limit = refl
 quiet : failing_of is_quiet (without 47 conflict_pending) ≡ 62 ∷ []
 quiet = refl
 
--- `entries`: not as the lines before say, and in another event
-entries : failing (tested is_entry_so (λ h. is_entry_shown)) (instead 35 (body.Entry 1 0 (1 ∷ []) (2 ∷ [])) exclusion) ≡ 35 ∷ []
-entries = refl
-
-shown_elsewhere : failing (tested is_entry_so (λ h. is_entry_shown)) (instead 34 (body.Entry 1 1 (1 ∷ []) (2 ∷ [])) exclusion) ≡ 34 ∷ []
-shown_elsewhere = refl
-
--- `copies`: another version than the last one
-copies : failing (tested is_copy_so (λ h. is_copy_shown)) (instead 36 (body.Copy 2 1 2 (u 1 1 1) (0 ∷ 0 ∷ 0 ∷ 0 ∷ 0 ∷ 0 ∷ 0 ∷ 1 ∷ [])) exclusion) ≡ 36 ∷ []
-copies = refl
+-- `undone`, `told`, `served`, `entries` and `copies`: `WrongShows.antt`
 
 -- ---- lines in form
 

@@ -19,13 +19,13 @@ use Rattle.arj_cause_tests.proofs.Words.{Run, Wrote, after, instead, lacking_fro
 use Rattle.arj_cause_tests.proofs.Worked.{conflict, exclusion, lost_lock, nested_abort, rebinding}
 
 -- the places of those lines of an event that don't pass a test, from 1
-abbrev failing_in : (Here → Body → Bool) → Here → List Body → List ℕ
+abbrev pub failing_in : (Here → Body → Bool) → Here → List Body → List ℕ
 failing_in test h [] = []
 failing_in test h (b ∷ rest) =
     if test h b then failing_in test (behind h b) rest else (length h.lines + 1) ∷ failing_in test (behind h b) rest
 
 -- the same over events
-abbrev failing_from : (Here → Body → Bool) → Header → Past → List Wrote → List ℕ
+abbrev pub failing_from : (Here → Body → Bool) → Header → Past → List Wrote → List ℕ
 failing_from test header past [] = []
 failing_from test header past (w ∷ rest) =
     failing_in test (here_at header past w.0 w.1) w.1 ++ failing_from test header (next past w.0 w.1) rest
