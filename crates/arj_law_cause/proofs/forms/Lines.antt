@@ -17,6 +17,7 @@ use Rattle.arj_law_runs.specs.forms.World.{IsSaidInForm}
 use Rattle.arj_law_runs.specs.journal.Right.{has_act}
 use Rattle.arj_model.specs.Actions.{Act, acts, acts_after, acts_from}
 use Rattle.arj_promise.specs.Runs.{journal_by}
+use Rattle.arj_law_cause.proofs.forms.Answers.{OkInForm, runs_say_ok}
 use Rattle.arj_law_cause.proofs.forms.Objects.{LineSo, Such, runs_name_such}
 use Rattle.arj_law_cause.proofs.forms.Ups.{IsUpInForm, runs_say_ups}
 use Rattle.arj_law_cause.specs.form.Form.{RunsAreInForm, is_open}
@@ -54,51 +55,51 @@ such_fits xs all u (inr is) = subst UidFits (sym is) (omega arith, omega arith, 
 
 module _ (hd : Header) (form : HeaderInForm hd) (all : List Line) (fit : (u : Uid) → Such all u → UidFits u) where
   body_form : (b : Body) → (is_of_parts b ≡ false → BodyInForm b) → LabelsInForm b → SaysOf (IsNode hd) b →
-      (is_of_action b ≡ true → BodyInForm b) → IsUpInForm hd b → LineSo all b → is_open b ≡ false → BodyInForm b
-  body_form (body.Began l k u p) world labels node action up names is = action refl
-  body_form (body.Ok l x op a) world labels node action up names is = absurd (cc is)
-  body_form (body.Includes l x n) world labels node action up names is = (labels, names.0, node_form hd form n node)
-  body_form (body.Conflict l u m n) world labels node action up names is = (labels, fit u names.0, node_form hd form n node)
-  body_form (body.Lost l n) world labels node action up names is = (labels, node_form hd form n node)
-  body_form (body.Changed l n d) world labels node action up names is = absurd (cc is)
-  body_form (body.Committing l) world labels node action up names is = labels
-  body_form (body.Committed l) world labels node action up names is = labels
-  body_form (body.Ended l) world labels node action up names is = labels
-  body_form (body.Aborted l cause.Asked) world labels node action up names is = (labels, tt)
-  body_form (body.Aborted l cause.Doomed) world labels node action up names is = (labels, tt)
-  body_form (body.Aborted l (cause.Lost n)) world labels node action up names is = (labels, node_form hd form n node)
-  body_form (body.Aborted l (cause.NoStores x)) world labels node action up names is = (labels, names.0)
-  body_form (body.Aborted l (cause.Listed x n)) world labels node action up names is = (labels, names.0)
-  body_form (body.Aborted l (cause.Conflict u m n)) world labels node action up names is =
+      (is_of_action b ≡ true → BodyInForm b) → IsUpInForm hd b → LineSo all b → OkInForm b → is_open b ≡ false → BodyInForm b
+  body_form (body.Began l k u p) world labels node action up names ok is = action refl
+  body_form (body.Ok l x o a) world labels node action up names ok is = (labels, names.0, ok.0, ok.1 is)
+  body_form (body.Includes l x n) world labels node action up names ok is = (labels, names.0, node_form hd form n node)
+  body_form (body.Conflict l u m n) world labels node action up names ok is = (labels, fit u names.0, node_form hd form n node)
+  body_form (body.Lost l n) world labels node action up names ok is = (labels, node_form hd form n node)
+  body_form (body.Changed l n d) world labels node action up names ok is = absurd (cc is)
+  body_form (body.Committing l) world labels node action up names ok is = labels
+  body_form (body.Committed l) world labels node action up names ok is = labels
+  body_form (body.Ended l) world labels node action up names ok is = labels
+  body_form (body.Aborted l cause.Asked) world labels node action up names ok is = (labels, tt)
+  body_form (body.Aborted l cause.Doomed) world labels node action up names ok is = (labels, tt)
+  body_form (body.Aborted l (cause.Lost n)) world labels node action up names ok is = (labels, node_form hd form n node)
+  body_form (body.Aborted l (cause.NoStores x)) world labels node action up names ok is = (labels, names.0)
+  body_form (body.Aborted l (cause.Listed x n)) world labels node action up names ok is = (labels, names.0)
+  body_form (body.Aborted l (cause.Conflict u m n)) world labels node action up names ok is =
       (labels, (fit u names.0, node_form hd form n node))
-  body_form (body.Aborted l (cause.Changed n d)) world labels node action up names is = absurd (cc is)
-  body_form (body.Aborted l (cause.Old n x v)) world labels node action up names is = absurd (cc is)
-  body_form (body.GaveUp l n) world labels node action up names is = (labels, node_form hd form n node)
-  body_form (body.Excluded l x n) world labels node action up names is = (labels, names.0, node_form hd form n node)
-  body_form (body.Granted n u o m) world labels node action up names is =
+  body_form (body.Aborted l (cause.Changed n d)) world labels node action up names ok is = absurd (cc is)
+  body_form (body.Aborted l (cause.Old n x v)) world labels node action up names ok is = absurd (cc is)
+  body_form (body.GaveUp l n) world labels node action up names ok is = (labels, node_form hd form n node)
+  body_form (body.Excluded l x n) world labels node action up names ok is = (labels, names.0, node_form hd form n node)
+  body_form (body.Granted n u o m) world labels node action up names ok is =
       let r = names.1 in (node_form hd form n node, fit u r.0, r.1)
-  body_form (body.Lowered n u o) world labels node action up names is =
+  body_form (body.Lowered n u o) world labels node action up names ok is =
       let r = names.1 in (node_form hd form n node, fit u r.0, r.1)
-  body_form (body.Bound x b n) world labels node action up names is = absurd (cc is)
-  body_form (body.Active n x b) world labels node action up names is = absurd (cc is)
-  body_form (body.Told n u e p) world labels node action up names is = (node_form hd form n node, fit u names.1)
-  body_form (body.Prepared n u r) world labels node action up names is = (node_form hd form n node, fit u names.1)
-  body_form (body.Done n u r e) world labels node action up names is = (node_form hd form n node, fit u names.1)
-  body_form (body.Up n i) world labels node action up names is = (node_form hd form n node, up node)
-  body_form (body.Recovered n u) world labels node action up names is = action refl
-  body_form (body.Entry x v s t) world labels node action up names is = absurd (cc is)
-  body_form (body.Copy n x v u p) world labels node action up names is = absurd (cc is)
-  body_form b world labels node action up names is = world refl
+  body_form (body.Bound x b n) world labels node action up names ok is = absurd (cc is)
+  body_form (body.Active n x b) world labels node action up names ok is = absurd (cc is)
+  body_form (body.Told n u e p) world labels node action up names ok is = (node_form hd form n node, fit u names.1)
+  body_form (body.Prepared n u r) world labels node action up names ok is = (node_form hd form n node, fit u names.1)
+  body_form (body.Done n u r e) world labels node action up names ok is = (node_form hd form n node, fit u names.1)
+  body_form (body.Up n i) world labels node action up names ok is = (node_form hd form n node, up node)
+  body_form (body.Recovered n u) world labels node action up names ok is = action refl
+  body_form (body.Entry x v s t) world labels node action up names ok is = absurd (cc is)
+  body_form (body.Copy n x v u p) world labels node action up names ok is = absurd (cc is)
+  body_form b world labels node action up names ok is = world refl
 
   lines_form : (lines : List Line) → AllByRecursion IsSaidInForm lines → AllByRecursion (λ (line : Line). LabelsInForm line.body) lines →
       AllByRecursion (λ (line : Line). SaysOf (IsNode hd) line.body) lines →
       AllByRecursion (λ (line : Line). is_of_action line.body ≡ true → LineInForm line) lines →
-      AllByRecursion (λ (line : Line). IsUpInForm hd line.body) lines → AllByRecursion (λ (line : Line). LineSo all line.body) lines →
+      AllByRecursion (λ (line : Line). IsUpInForm hd line.body) lines → AllByRecursion (λ (line : Line). LineSo all line.body) lines → AllByRecursion (λ (line : Line). OkInForm line.body) lines →
       AllByRecursion (λ (line : Line). is_open line.body ≡ false → LineInForm line) lines
-  lines_form [] world labels nodes actions ups names = tt
-  lines_form (line ∷ lines) world labels nodes actions ups names = (
-    λ is. (world.0.0, body_form line.body world.0.1 labels.0 nodes.0 (λ one. (actions.0 one).1) ups.0 names.0 is),
-    lines_form lines world.1 labels.1 nodes.1 actions.1 ups.1 names.1,
+  lines_form [] world labels nodes actions ups names oks = tt
+  lines_form (line ∷ lines) world labels nodes actions ups names oks = (
+    λ is. (world.0.0, body_form line.body world.0.1 labels.0 nodes.0 (λ one. (actions.0 one).1) ups.0 names.0 oks.0 is),
+    lines_form lines world.1 labels.1 nodes.1 actions.1 ups.1 names.1 oks.1,
   )
 
 pub runs_are_in_form : RunsAreInForm
@@ -107,4 +108,4 @@ runs_are_in_form hd r form has =
     lines_form hd form.header (journal_by hd r)
     (such_fits (acts (journal_by hd r)) (acts_fit [] (journal_by hd r) tt actions)) (journal_by hd r)
     (runs_say_in_form hd r form) (runs_say_labels hd r form) (lines_name hd form.header r) actions (runs_say_ups hd r form has)
-    (runs_name_such hd form.header r)
+    (runs_name_such hd form.header r) (runs_say_ok hd r form)

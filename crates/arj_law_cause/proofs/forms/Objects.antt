@@ -3,7 +3,7 @@ use Rattle.arj_law_parts.proofs.Words
 use Words.{⊤, ◌⊎◌, ⊎_elim, inl, inr, ◌≡◌, ◌∙◌, ◌+◌, ◌==◌, ◌||◌, ℕ, Bool, true, false, cond, List, [], ◌∷◌, ◌++◌, flat_map, map, find}
 use Words.{Option, Some, None, IfSome, refl, sym, ap, subst, AllByRecursion, and_parts, list_all, either, option_map, in_find, uid_is, numbered, has}
 use Words.{uid_set, without_number, uid_eq, last_uid, Body, Header, Line, Message, Uid, Disk, Effect, Head, Ask, Asked, Reply, ObjectState, Row}
-use Words.{InvokedReply, uids_of, asks, answers, last_end, acked, answer_query, heard, handle_other}
+use Words.{InvokedReply, uids_of, answers, last_end, acked, answer_query, heard, handle_other}
 use Words.{coord_heard, Served, Handled, Work, Prepare, Commit, Abort, PutIntent, RemoveIntent, Stop, Before, After, InPart}
 use Words.{worked, stopped, Do, Say, Send, Look, PutInc, Pair, Parts, handle, holders, query_about, prepared_actions, hello_to, numbers_to, Input}
 use Words.{naming_at, naming_back, back_lines, named_back, rows_back, pending_of, recovered_naming, recovered_records, restart_outs, Kept, Copy}

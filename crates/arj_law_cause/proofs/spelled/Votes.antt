@@ -2,7 +2,7 @@
 use Rattle.arj_law_parts.proofs.Words
 use Words.{⊎_elim, ◌⊎◌, ◌≡◌, ◌≤◌, ◌<◌, ◌∙◌, ◌+◌, ◌==◌, ◌++◌, ◌&&◌, arith, ℕ, Bool, true, false, cond, List, [], ◌∷◌, length, length-map, map, refl}
 use Words.{sym, ap, subst, inl, inr, ⊤, Option, Some, None, option_map, filter_map, cons_option, AllByRecursion, and_parts, eqb-true, uid_same}
-use Words.{in_to, Ask, Asked, Head, Header, Message, ObjectState, Uid, asks, first_uid, is_on}
+use Words.{in_to, Ask, Asked, Head, Header, Message, ObjectState, Uid, first_uid, is_on}
 use Words.{uid_eq, uids_of, Reply, actor, answers, again_all, begin_action, is_serial, tick_outs, At, AtActivate, AtBind, AtInvoke, AtLoad}
 use Words.{AtNote, Goal, Steps, ask_at, Calling, Coord, Doing, doing_of, Copy, Over, changed_state, over_of, state_over}
 use Words.{changed_states, Server, Disk, Do, Effect, Say, Send, stopped, worked, acts, parent_of, parts_in}

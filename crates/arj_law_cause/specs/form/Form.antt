@@ -1,6 +1,8 @@
 -- Which lines of a journal are in form, and of which kinds it isn't shown.
 use Rattle.std.specs.Prelude.{◌≡◌, Bool, true, false, List}
 use Rattle.std.specs.List.{AllByRecursion}
+use Rattle.arj_class.specs.declared.op.Op.{Op}
+use Rattle.arj_class.specs.declared.op.Op.TheVariants as op
 use Rattle.arj_journal.specs.LineForm.{LineInForm}
 use Rattle.arj_journal.specs.declared.body.Body.{Body}
 use Rattle.arj_journal.specs.declared.body.Body.TheVariants as body
@@ -10,9 +12,18 @@ use Rattle.arj_journal.specs.declared.header.Header.{Header}
 use Rattle.arj_law_promise.specs.rooms.Actions.{HasIncs}
 use Rattle.arj_promise.specs.Runs.{IsInForm, Run, journal_by}
 
+-- the operation answers with a number or with bytes
+abbrev pub answers_more : Op → Bool
+answers_more op.Get = true
+answers_more op.Len = true
+answers_more op.Pop = true
+answers_more (op.GetKey key) = true
+answers_more (op.Remove key) = true
+answers_more asked = false
+
 -- Kinds of lines of which it isn't shown that each is in form. They say an answer, a binding, an incarnation that was, a version or bytes.
 abbrev pub is_open : Body → Bool
-is_open (body.Ok l x op answer) = true
+is_open (body.Ok l x asked answer) = answers_more asked
 is_open (body.Changed l n d) = true
 is_open (body.Aborted l (cause.Changed n d)) = true
 is_open (body.Aborted l (cause.Old n x version)) = true
