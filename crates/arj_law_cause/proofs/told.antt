@@ -2,4 +2,3 @@
 pub mod Assembled
 pub mod Joined
 pub mod Telling
-pub mod Weaker

@@ -17,12 +17,9 @@ use Rattle.arj_journal.specs.declared.event.Event.TheVariants as event
 use Rattle.arj_journal.specs.declared.header.Header.{Header}
 use Rattle.arj_text.specs.Label.{name}
 use Rattle.arj_text.specs.declared.label.Label.{Label}
-use Rattle.arj_law_cause.specs.follow.causes.Refusals.{doomed}
-use Rattle.arj_law_cause.specs.follow.lines.Lines.{BeginsCommitSo, BeginsSo}
-use Rattle.arj_law_cause.specs.told.Steps.{AcceptedSo, StepSo}
 use Rattle.arj_model.specs.Actions.{Act, act_in, acts, is_begun}
-use Rattle.arj_model.specs.Follows.{AnswersFit, is_behind_doom, is_ending}
-use Rattle.arj_model.specs.Own.{AreAborted, AreGiveUps, Ends, aborted_of, commit_line, may_stand}
+use Rattle.arj_model.specs.Follows.{Accepted, AnswersFit, IsRefusedDoomed, Step, is_ending}
+use Rattle.arj_model.specs.Own.{AreAborted, AreGiveUps, Begins, BeginsCommit, Ends, aborted_of, commit_line, may_stand}
 use Rattle.arj_model.specs.Past.{Past, asked_of, block, next}
 use Rattle.arj_model.specs.Refusals.{causes, first_cause, has_ended, refusal, was_given}
 use Rattle.arj_progrun.specs.Events.{ask_of}
@@ -200,9 +197,9 @@ module _ (hd : Header) (past : Past) where
   begun_new l e = (or_parts (was_given past.start l) (is_begun past.lines l) e).1
 
   commits_own : (l : Label) (o : Option Act) (own : List Body) → act_in (acts past.lines) (name l) ≡ o →
-      has_ended past.lines (name l) ≡ false → BeginsCommitSo l o own → OwnFit (event.Commit l) own
+      has_ended past.lines (name l) ≡ false → BeginsCommit past l o own → OwnFit (event.Commit l) own
   commits_own l None own found open_now begins = absurd begins
-  commits_own l (Some a) own found open_now (inr is) = own_plain (event.Commit l) own (subst ArePlain (sym is) (tt, tt))
+  commits_own l (Some a) own found open_now (inr (is, plain, lost)) = own_plain (event.Commit l) own (subst ArePlain (sym is) (tt, tt))
   commits_own l (Some a) own found open_now (inl is) =
       own_is (event.Commit l) own (commit_line a.kind l ∷ []) is (by a.kind refl)
     where
@@ -213,7 +210,7 @@ module _ (hd : Header) (past : Past) where
       by kind.Constituent e rest fit = ((refl, (a, found, ap (λ k. commit_line k l) e), open_now), fit)
       by kind.Independent e rest fit = ((refl, (a, found, ap (λ k. commit_line k l) e), open_now), fit)
 
-  own_fit : (e : Event) (own : List Body) → refusal hd past e ≡ None → BeginsSo hd past e own → OwnFit e own
+  own_fit : (e : Event) (own : List Body) → refusal hd past e ≡ None → Begins hd past e own → OwnFit e own
   own_fit (event.Begin l n) own none is =
       let all = none_hold (causes hd past (event.Begin l n)) none in
       let second = all.1 in
@@ -255,7 +252,7 @@ module _ (hd : Header) (past : Past) where
   own_fit (event.Show x) own none is = own_plain (event.Show x) own (subst ArePlain (sym is) tt)
 
   -- with lines outside of events behind
-  accepted_fit : (e : Event) (bs tail : List Body) → refusal hd past e ≡ None → AcceptedSo hd past e bs → ArePlain tail → AreFit past e (bs ++ tail)
+  accepted_fit : (e : Event) (bs tail : List Body) → refusal hd past e ≡ None → Accepted hd past e bs → ArePlain tail → AreFit past e (bs ++ tail)
   accepted_fit e bs tail none a plain =
       subst (AreFit past e) (sym (ap (λ cs. cs ++ tail) a.parts ∙ append_assoc a.own (a.others ++ a.last) tail
       ∙ ap (λ cs. a.own ++ cs) (append_assoc a.others a.last tail)))
@@ -263,16 +260,16 @@ module _ (hd : Header) (past : Past) where
       (others_fit past e (past.lines ++ block (past.count + 1) a.own) a.others (a.last ++ tail) a.only a.answers
       (all_append Plain a.last tail (ends_plain e a.own a.last a.ends) plain)))
 
-  step_fit : (e : Event) (bs : List Body) → StepSo hd past e bs → AreFit past e bs
+  step_fit : (e : Event) (bs : List Body) → Step hd past e bs → AreFit past e bs
   step_fit e bs s = by (refusal hd past e) refl s.lines
     where
-      by : (o : Option ℕ) → refusal hd past e ≡ o → MatchOption o (AcceptedSo hd past e bs) (λ c. bs ≡ body.Refused c ∷ [])
-          ⊎ ((is_behind_doom (refusal hd past e) ≡ true) × (bs ≡ body.Refused doomed ∷ [])) → AreFit past e bs
-      by o is (inr (low, refused)) = subst (AreFit past e) (sym refused) (inl refl)
+      by : (o : Option ℕ) → refusal hd past e ≡ o → MatchOption o (Accepted hd past e bs) (λ c. bs ≡ body.Refused c ∷ [])
+          ⊎ IsRefusedDoomed hd past e bs → AreFit past e bs
+      by o is (inr d) = subst (AreFit past e) (sym d.line) (inl refl)
       by (Some c) is (inl refused) = subst (AreFit past e) (sym refused) (inl refl)
       by None is (inl a) = subst (AreFit past e) (append-nil bs) (accepted_fit e bs [] is a tt)
 
-  tolerant_fit : (e : Event) (bs : List Body) → Tolerant (StepSo hd) past e bs → AreFit past e bs
+  tolerant_fit : (e : Event) (bs : List Body) → Tolerant (Step hd) past e bs → AreFit past e bs
   tolerant_fit e bs (inl s) = step_fit e bs s
   tolerant_fit e bs (inr (quiet, (front, x, cut, last, s))) =
       subst (AreFit past e) (sym cut) (by (refusal hd past e) refl s.lines)
@@ -281,14 +278,14 @@ module _ (hd : Header) (past : Past) where
       refused_front c is =
           subst (λ cs. AreFit past e (cs ++ x ∷ [])) (sym is) (inr (ap ask_of quiet, (last, tt)))
 
-      by : (o : Option ℕ) → refusal hd past e ≡ o → MatchOption o (AcceptedSo hd past e front) (λ c. front ≡ body.Refused c ∷ [])
-          ⊎ ((is_behind_doom (refusal hd past e) ≡ true) × (front ≡ body.Refused doomed ∷ [])) → AreFit past e (front ++ x ∷ [])
-      by o is (inr (low, refused)) = refused_front doomed refused
+      by : (o : Option ℕ) → refusal hd past e ≡ o → MatchOption o (Accepted hd past e front) (λ c. front ≡ body.Refused c ∷ [])
+          ⊎ IsRefusedDoomed hd past e front → AreFit past e (front ++ x ∷ [])
+      by o is (inr d) = refused_front 12 d.line
       by (Some c) is (inl refused) = refused_front c refused
       by None is (inl a) = accepted_fit e front (x ∷ []) is a (ending_plain x last, tt)
 
 -- so are those of all events of a trace
-pub trace_fits : (hd : Header) (past : Past) (gs : List Given) → TraceHas (StepSo hd) past gs → AreNumbered (past.count + 1) gs →
+pub trace_fits : (hd : Header) (past : Past) (gs : List Given) → TraceHas (Step hd) past gs → AreNumbered (past.count + 1) gs →
     (end : Past) × FitAlong past gs end
 trace_fits hd past [] has numbers = (past, refl)
 trace_fits hd past (g ∷ gs) has numbers =

@@ -4,9 +4,7 @@ use Rattle.std.specs.Prelude.{◌^◌}
 use Rattle.std.specs.List.{AllByRecursion}
 use Rattle.arj_journal.specs.declared.body.Line.{Line}
 use Rattle.arj_journal.specs.declared.header.Header.{Header}
-use Rattle.arj_law_cause.proofs.told.Weaker.{runs_so}
 use Rattle.arj_law_cause.specs.told.Runs.{JournalsTell}
-use Rattle.arj_law_cause.specs.told.Steps.{StepSo}
 use Rattle.arj_law_programs.proofs.Along.{EndsQuiet, TraceHas, ends_quiet, run_has}
 use Rattle.arj_law_programs.proofs.Counting.{Done, all_calls, all_those}
 use Rattle.arj_law_programs.proofs.Fitting.{trace_fits, trace_lines}
@@ -15,7 +13,7 @@ use Rattle.arj_law_programs.proofs.Order.{all_run_alone}
 use Rattle.arj_law_programs.proofs.Turns.{schedule_reaches}
 use Rattle.arj_law_programs.specs.Laws.{CallsSurvive, HasPrograms, IsRunOf, ProgramsRunAlone}
 use Rattle.arj_law_runs.specs.follow.Frames.{run_events}
-use Rattle.arj_model.specs.Follows.{Runs}
+use Rattle.arj_model.specs.Follows.{Runs, Step}
 use Rattle.arj_model.specs.Past.{at_start}
 use Rattle.arj_model.specs.Refusals.{asks_by}
 use Rattle.arj_prog.specs.declared.plan.Plan.{Plan}
@@ -44,13 +42,12 @@ run_ends : JournalsTell → (hd : Header) (moves : List Move) (plan : Plan) (tra
     Schedule plan trace end → IsRunOf hd moves trace → Ended (journal_by hd (from_format hd moves)) end
 run_ends tells hd moves plan trace end has s run =
     let told = tells hd (from_format hd moves) run.form in
-    let follows : Runs (StepSo hd) fresh (run_events hd (from_format hd moves)) (journal_by hd (from_format hd moves)) =
-    let events = told.events in
-    runs_so hd fresh (run_events hd (from_format hd moves)) (journal_by hd (from_format hd moves)) events.follows in
+    let follows : Runs (Step hd) fresh (run_events hd (from_format hd moves)) (journal_by hd (from_format hd moves)) =
+    let events = told.events in events.follows in
     let quiet : EndsQuiet trace = subst EndsQuiet (sym s.whole) (ends_quiet s.front s.lines) in
-    let traced : TraceHas (StepSo hd) (at_start fresh) trace =
-    run_has (StepSo hd) trace (journal_by hd (from_format hd moves))
-    (subst (λ es. Runs (StepSo hd) fresh es (journal_by hd (from_format hd moves))) (sym run.events) follows) run.journal run.numbered quiet in
+    let traced : TraceHas (Step hd) (at_start fresh) trace =
+    run_has (Step hd) trace (journal_by hd (from_format hd moves))
+    (subst (λ es. Runs (Step hd) fresh es (journal_by hd (from_format hd moves))) (sym run.events) follows) run.journal run.numbered quiet in
     let fit = trace_fits hd (at_start fresh) trace traced run.numbered in
     let few : 1 + length plan.programs ≤ 2 ^ 64 = let most = has.1 in omega (arith, most) in
     let reached = schedule_reaches plan few (some_program plan.programs has.0) trace end s fit.0 fit.1 in
