@@ -21,8 +21,8 @@ pub const FRONT: &[u8] = b"<!DOCTYPE html>
   #side { overflow: auto; padding: 4px 12px 24px; }
   h2 { font-size: 13px; margin: 14px 0 4px; }
   table { border-collapse: collapse; width: 100%; }
-  th, td { border: 1px solid #ddd; padding: 2px 6px; text-align: left; vertical-align: top; font-weight: normal; }
-  th { background: #f6f7f9; white-space: nowrap; }
+  th, td { border: 1px solid #ddd; padding: 2px 6px; text-align: left; vertical-align: top; font-weight: normal; overflow-wrap: anywhere; }
+  th { background: #f6f7f9; min-width: 150px; }
   td b { font-weight: 600; }
   .doubt { background: #fff0cc; }
   .out { background: #eee; color: #777; }
@@ -71,6 +71,7 @@ const classes = new Map();
 const tables = new Map();
 const doubts = [];
 const states = new Map();
+const pendings = [];
 let unreadable = null;
 const copies = new Map();
 const entries = new Map();
@@ -144,6 +145,16 @@ function readState(words) {
   push(states, words[2], state);
 }
 
+// What nodes may hold, prepared, from the line of this number on, four words each: the object, the node, for whom, and whether a line
+// said so.
+function readPending(words) {
+  const list = [];
+  for (let i = 2; i + 3 < words.length; i += 4) {
+    list.push({ x: words[i], node: words[i + 1], who: words[i + 2], said: words[i + 3] === 'prepared' });
+  }
+  pendings.push({ at: Number(words[1]), list });
+}
+
 for (const text of told) {
   const words = text.split(' ');
   const rest = text.slice(words[0].length + 1);
@@ -153,6 +164,7 @@ for (const text of told) {
   else if (words[0] === 'doubts') readDoubts(words);
   else if (words[0] === 'listed') readListed(words);
   else if (words[0] === 'state') readState(words);
+  else if (words[0] === 'pending') readPending(words);
   else if (words[0] === 'unreadable') unreadable = Number(words[1]);
 }
 
@@ -178,11 +190,14 @@ function shown(word) {
   return word;
 }
 
+// A text with long words cut short, as the digits of a register.
+const short = text => text.split(' ').map(word => (word.length > 60 ? word.slice(0, 56) + '...' : word)).join(' ');
+
 function sentence(line) {
   const w = line.words;
   if (w[0] in ends && frames.has(w[1])) return frames.get(w[1]).kind + ' ' + w[1] + ' ' + ends[w[0]];
   if (w[0] === 'sent') return w[4] + ' ' + w[1] + ' goes to node ' + w[3];
-  return w.map((word, i) => (i === 0 ? word : shown(word))).join(' ');
+  return short(w.map((word, i) => (i === 0 ? word : shown(word))).join(' '));
 }
 
 // ---- drawing
@@ -326,7 +341,7 @@ function drawRow(group, row) {
   if (it.script) {
     const quiet = it.script.event === undefined;
     group.append(draw('rect', { x: 0, y, width: right + 640, height: HIGH, fill: quiet ? '#fafafa' : '#eaf1fb' }));
-    const text = (quiet ? '' : it.script.event + '  ') + it.script.text;
+    const text = (quiet ? '' : it.script.event + '  ') + short(it.script.text);
     drawWords(group, { x: 6, y: y + 12, fill: quiet ? '#888' : '#174a8c', 'font-weight': 'bold' }, text);
     return;
   }
@@ -371,41 +386,30 @@ function drawChart() {
 
 // ---- what stands at the place of the slider
 
-// Which objects an action, or one below it, has called: a doubt of it is shown at these.
-const parents = new Map();
-const called = new Map();
-for (const line of lines) {
-  const w = line.words;
-  if (w[0] === 'began' && w[4] !== '-' && w[2] !== 'independent') parents.set(w[1], w[4]);
-  if (w[0] !== 'ok' && w[0] !== 'includes') continue;
-  let who = w[1];
-  for (let depth = 0; who !== undefined && depth < 16; depth++) {
-    if (!called.has(who)) called.set(who, new Set());
-    called.get(who).add(w[2]);
-    who = parents.get(who);
-  }
-}
-const touches = (uid, x) => !names.has(uid) || (called.has(names.get(uid)) && called.get(names.get(uid)).has(x));
-
 const isUp = node => { const turn = last(lives.get(String(node)), place); return turn === null || turn.up; };
 const doubtsNow = () => { const it = last(doubts, place); return it ? it.list : []; };
+const pendingAt = (x, node) => { const it = last(pendings, place); return it ? it.list.filter(one => one.x === x && one.node === node) : []; };
 const listedNow = object => { const it = last(entries.get(object.x), place); return it ? it.stores : object.stores; };
 
 function storeCell(object, store, value) {
   const cell = make('td');
   cell.append(make('b', '', 'store ' + store), document.createElement('br'));
   const copy = last(copies.get(store + ' ' + object.x), place);
-  const inDoubt = doubt => doubt.node === store && doubt.role === 'store' && touches(doubt.who, object.x);
-  const who = doubtsNow().filter(inDoubt).map(doubt => shown(doubt.who)).join(', ');
-  if (who !== '') { cell.className = 'doubt'; cell.append('in doubt of ' + who + ': the state before it, or behind it'); }
-  else if (listedNow(object).includes(store)) cell.append(value);
-  else { cell.className = 'out'; cell.append('excluded'); }
+  const whose = said => pendingAt(object.x, store).filter(one => one.said === said).map(one => shown(one.who)).join(', ');
+  const sure = whose(true);
+  const perhaps = whose(false);
+  const isListed = listedNow(object).includes(store);
+  if (!isListed) { cell.className = 'out'; cell.append(make('div', '', 'excluded')); }
+  if (sure + perhaps !== '') cell.className = 'doubt';
+  if (sure !== '') cell.append(make('div', '', 'in doubt of ' + sure + ': the state before it, or behind it'));
+  if (perhaps !== '') cell.append(make('div', '', 'perhaps in doubt of ' + perhaps + ': it stopped as it may have prepared'));
+  if (sure + perhaps === '' && isListed) cell.append(short(value));
   const out = last(leaving.get(store + ' ' + object.x), place);
   const since = last(entries.get(object.x), place);
   if (out && (!since || since.at < out.at)) cell.append(make('div', 'small', out.who + ' sets out to exclude it, line ' + out.at));
-  if (!isUp(store)) { cell.className = 'down'; cell.append(document.createElement('br'), 'node is down'); }
+  if (!isUp(store)) { cell.className = 'down'; cell.append(make('div', '', 'node is down')); }
   if (copy) {
-    const digits = copy.payload === '-' ? '' : ', ' + copy.payload;
+    const digits = copy.payload === '-' ? '' : ', bytes ' + short(copy.payload);
     cell.append(make('div', 'small', 'shown by line ' + copy.at + ': version ' + copy.version + digits));
   }
   return cell;
@@ -549,7 +553,7 @@ function go(to, follow) {
   const line = place === 0 ? null : lines[place - 1];
   const event = line ? ', event ' + line.event : '';
   document.getElementById('where').textContent = 'line ' + place + ' of ' + lines.length + event;
-  const what = line ? line.under.text + ' : ' + sentence(line) : 'before the first line';
+  const what = line ? short(line.under.text) + ' : ' + sentence(line) : 'before the first line';
   document.getElementById('what').textContent = what;
   if (follow) {
     const y = rowOf(place) * HIGH;

@@ -8,6 +8,7 @@ ghost use Rattle.arj_words.specs.Page.{Appends, Stays, escaped};
 use crate::page::{BACK, FRONT};
 use arj_base::Bytes;
 use arj_last::put_last_states;
+use arj_pending::put_pendings;
 use arj_seen::{Asked, ScriptLine, Seen};
 use arj_view_data::put_run;
 use arj_words::Page;
@@ -54,6 +55,13 @@ fn told(alloc: Global, seen: &Seen) -> Result<Bytes, AllocError>
     put_script(&mut out, seen.script.as_slice())?;
     put_run(alloc, &mut out, &seen.header, seen.lines.as_slice())?;
     put_last_states(alloc, &mut out, &seen.header, seen.lines.as_slice())?;
+    put_pendings(
+        alloc,
+        &mut out,
+        seen.script.as_slice(),
+        &seen.header,
+        seen.lines.as_slice(),
+    )?;
     Ok(out)
 }
 
