@@ -21,7 +21,8 @@ answers_more (op.GetKey key) = true
 answers_more (op.Remove key) = true
 answers_more asked = false
 
--- Kinds of lines of which it isn't shown that each is in form. They say an answer, a binding, an incarnation that was, a version or bytes.
+-- Kinds of lines of which it isn't shown that each is in form. They say an answer of more than a word, a binding, an incarnation that was,
+-- a version or bytes.
 abbrev pub is_open : Body → Bool
 is_open (body.Ok l x asked answer) = answers_more asked
 is_open (body.Changed l n d) = true
