@@ -1,6 +1,6 @@
 -- Lines of every run are in form: of frames, stops, refusals and the run, of labels and nodes, and of actions, as laws below this crate say;
--- that a node is up (`Ups`), or that a call is done (`Answers`); and those that name an object, or an action that began (`Coords`, `Rows`, `Parts`, `Objects` by `Said`). `Lines` puts
--- them together.
+-- that a node is up (`Ups`), or that a call is done (`Answers`); and those that name an object, or an action that began (`Coords`, `Rows`,
+-- `Parts`, and `Objects` by `Said`). `Lines` puts them together.
 pub mod Ups
 pub mod Answers
 pub mod Said
