@@ -14,7 +14,7 @@ use Rattle.arj_model.specs.Past.{Past, at_start, next}
 use Rattle.arj_start.specs.Start.{Start, fresh}
 use Rattle.arj_law_cause.specs.kinds.Kinds.{is_abort_done, is_copy_shown, is_entry_shown, is_told, is_told_by_server}
 use Rattle.arj_law_cause.specs.kinds.Rows.{tested}
-use Rattle.arj_law_cause.specs.kinds.Tests.{is_copy_so, is_entry_so, is_told_caused, is_told_so}
+use Rattle.arj_law_cause.specs.kinds.Tests.{is_copy_so, is_entry_so, is_told_so}
 use Rattle.arj_cause_tests.proofs.Words.{Run, Wrote, after, instead, lacking_from, nodes, object_line, run, u}
 use Rattle.arj_cause_tests.proofs.Worked.{conflict, exclusion, lost_lock, nested_abort, rebinding}
 
@@ -46,7 +46,7 @@ tolds = failing is_told_so is_told fresh
 
 -- ends that servers say they were told, without their cause
 abbrev served : Run → List ℕ
-served = failing is_told_caused is_told_by_server fresh
+served = failing has_cause is_told_by_server fresh
 
 -- aborts that are done without their cause
 abbrev undone : Run → List ℕ

@@ -6,7 +6,8 @@
 -- restarts (`Up`), and, with what is known of lines, of records that they find (`Recovered`). Of quiesces, by the lines that events write:
 -- what was asked is what was accepted (`Accepted`), so no action waits where every node is idle (`Waiting`, `Quiet`). Of ends that nodes
 -- hear of and of aborts that are done: whoever has ended where it began is over by the journal (`Over`), and of no other action does a
--- node say so (`Tells`, `Ended`, `Aborts`); and a server does where it has a lock of the action (`Rowed`, `Served`). Of shows: they say what disks hold (`Held`), which are clean before them (`Shown`).
+-- node say so (`Tells`, `Ended`, `Aborts`); and a server does where it has a lock of the action (`Rowed`, `Served`), and none
+-- when it starts anew (`Anew`). Of shows: they say what disks hold (`Held`), which are clean before them (`Shown`).
 pub mod Forms
 pub mod Frames
 pub mod Refused
@@ -29,6 +30,7 @@ pub mod Ended
 pub mod Aborts
 pub mod Held
 pub mod Shown
+pub mod Anew
 pub mod Rowed
 pub mod Served
 pub mod Denied

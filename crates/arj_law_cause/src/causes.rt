@@ -1,7 +1,7 @@
 // Rows of causes: lines of the world, and what nodes do.
 ghost use Rattle.arj_law_cause.specs.kinds.Kinds.{is_abort_done, is_armed, is_commit_done, is_copy_shown, is_denial, is_dropped, is_entry_shown, is_found, is_got, is_halted, is_limit, is_opening, is_plain_refusal, is_quiet, is_sent, is_told, is_told_by_server, is_up, is_void};
 ghost use Rattle.arj_law_cause.specs.kinds.Rows.{RowHolds, RowHoldsWhere, TestHolds};
-ghost use Rattle.arj_law_cause.specs.kinds.Tests.{is_copy_so, is_entry_so, is_told_caused, is_told_so};
+ghost use Rattle.arj_law_cause.specs.kinds.Tests.{is_copy_so, is_entry_so, is_told_so};
 
 /// In every run in form, wherever it begins and wherever disks stop, each line of a frame has its cause by the events and the lines before
 /// it, row by row: a frame that is sent has the next number and goes from a node that is up, or from nobody where the script hands over
@@ -78,10 +78,10 @@ pub fn shows_have_causes()
     ensures copies { TestHolds is_copy_so is_copy_shown }
 {}
 
-/// In every such run, but in a restart, where a server says that it was told of an end a lock of the action or of one below it stands in the
-/// table of its node, and the action ended so. It does nothing when it runs.
+/// In every such run, where a server says that it was told of an end, a lock of the action or of one below it stands in the table of its
+/// node, and the action ended so. It does nothing when it runs.
 pub fn told_servers_have_causes()
-    ensures told { TestHolds is_told_caused is_told_by_server }
+    ensures told { RowHolds is_told_by_server }
 {}
 
 /// In every such run an event that is refused has the cause of its number, the lowest one that it has by the journal, or, where that has a

@@ -28,6 +28,7 @@ use Rattle.arj_protocol.proofs.ServerTable.{one_end}
 use Rattle.arj_protocol.specs.Copy.{end_copy, holds}
 use Rattle.arj_protocol.specs.Laws.{rows_ended}
 use Rattle.arj_law_cause.proofs.rows.Holders.{one_passes}
+use Rattle.arj_law_cause.proofs.kinds.Anew.{IsEmpty, one_empty}
 use Rattle.arj_law_cause.proofs.kinds.Tells.{SaysBy, asked_all, is_of_ends, other_all, replied, serve_all}
 
 -- a line by which a server's locks go
@@ -101,10 +102,10 @@ no_end p c = in_from p [] c
 
 -- ---- effects, at a node, of an event
 
-module _ (free : Bool) (k e : ℕ) where
-  -- the table has a row that goes with this line, or none is asked for
+module _ (k e : ℕ) where
+  -- the table has a row that goes with this line
   abbrev pub HasRow : List Line → Body → Type 0
-  HasRow ls (body.Told n u f part.Server) = (free || list_any (λ row. is_in_part part.Server row && is_on row.holder u) (table n ls)) ≡ true
+  HasRow ls (body.Told n u f part.Server) = list_any (λ row. is_in_part part.Server row && is_on row.holder u) (table n ls) ≡ true
   HasRow ls b = ⊤
 
   -- so it is of these effects, behind these lines
@@ -179,12 +180,8 @@ module _ (free : Bool) (k e : ℕ) where
       let o = found u s.objects keyed has in
       let r = one_passes (λ (r : Row). is_on r.holder u) (rows_on (object o.0) (table k ls))
       (ap (list_any (λ (r : Row). is_on r.holder u)) (t o.0) ∙ o.1) in
-      in_free free (among (object o.0) refl (table k ls) r.0 r.1 r.2)
+      among (object o.0) refl (table k ls) r.0 r.1 r.2
     where
-      in_free : (c : Bool) {b : Bool} → b ≡ true → (c || b) ≡ true
-      in_free true is = refl
-      in_free false is = is
-
       among : (o : Uid) → is_entry o ≡ false → (rows : List Row) (r : Row) → In r (rows_on o rows) → is_on r.holder u ≡ true →
           list_any (λ row. is_in_part part.Server row && is_on row.holder u) rows ≡ true
       among o of [] r i on = absurd i
@@ -237,6 +234,40 @@ module _ (free : Bool) (k e : ℕ) where
       by true = tt
       by false = all_append IsStill (end_orphans u (naming.taken_end u f o) p o) (end_lines u (naming.taken_end u f o) o)
           (gone (naming.taken_end u f o)) (line (naming.taken_end u f o) (naming.has_locks u o))
+
+  -- what a store and naming do at an end
+  fronts_still : (u : Uid) (f : End) (d : Disk) (t : Parts) →
+      AllByRecursion IsStill (store_told k u f d.store ++ (naming_told u f d.names t.naming).outs)
+  fronts_still u f d t = all_append IsStill (store_told k u f d.store) (naming_told u f d.names t.naming).outs (store f (is_prepared u d.store))
+      (named t.naming)
+    where
+      store : (f : End) (b : Bool) → AllByRecursion IsStill (cond b (end_states k u f) [])
+      store f false = tt
+      store ending.Abort true = (tt, (refl, tt))
+      store ending.Commit true = (tt, (refl, tt))
+
+      named : (o : Option Naming) → AllByRecursion IsStill (naming_told u f d.names o).outs
+      named None = tt
+      named (Some o) = told_still u f d.names o
+
+  still_free : (es : List Effect) → AllByRecursion IsStill es → AreFree es
+  still_free [] all = tt
+  still_free (Do w ∷ es) all = (tt, still_free es all.1)
+  still_free (Say b ∷ es) all = (stays_free b all.0, still_free es all.1)
+  still_free (Send to m ∷ es) all = absurd all.0
+
+  -- a server without objects says nothing of ends
+  ends_free : (es : List (Uid × End)) (s : Server) → IsEmpty s → AreFree (apply_ends k es s).outs
+  ends_free [] s none = tt
+  ends_free (p ∷ es) s none =
+      let d = end_one k p.0 p.1 s in
+      all_append (SaidIn IsFreeLine) d.outs (apply_ends k es d.part).outs (by (is_told p.0 s))
+      (ends_free es d.part (one_empty k p.0 p.1 s none))
+    where
+      by : (b : Bool) → AreFree (cond {A = Did Server} b (did_nothing s) (end_new k p.0 (server.taken_end p.0 p.1 s) s)).outs
+      by true = tt
+      by false = subst (λ m. AreFree (cond (list_any (λ (e : ℕ × Copy). holds p.0 e.1.rows) m)
+          (Say (body.Told k p.0 (server.taken_end p.0 p.1 s) part.Server) ∷ []) [])) (sym none) tt
 
   -- ends one after another
   ends_rowed : (es : List (Uid × End)) (s : Server) (fs : List Effect) → AreOfActions es → AreKeyed s.objects → AreFree fs →
@@ -381,18 +412,8 @@ module _ (free : Bool) (k e : ℕ) where
         acks true = (tt, tt)
         acks false = tt
 
-        store : (f : End) (b : Bool) → AllByRecursion IsStill (cond b (end_states k u f) [])
-        store f false = tt
-        store ending.Abort true = (tt, (refl, tt))
-        store ending.Commit true = (tt, (refl, tt))
-
         still : AllByRecursion IsStill fronts
-        still = all_append IsStill (store_told k u f d.store) (naming_told u f d.names t.naming).outs (store f (is_prepared u d.store))
-            (named t.naming)
-          where
-            named : (o : Option Naming) → AllByRecursion IsStill (naming_told u f d.names o).outs
-            named None = tt
-            named (Some o) = told_still u f d.names o
+        still = fronts_still u f d t
 
     -- of what stands behind a request or an answer of another kind no line is of a server's end
     other_rowed : (m : Message) → AreOfActions (told_by m) → RowedBy (handle_other k d t from m) ls
@@ -423,3 +444,34 @@ module _ (free : Bool) (k e : ℕ) where
         by : (o : Option (Head × Ask)) → asks m ≡ o → RowedBy (handle_ask k d t from m o) ls
         by None is = answered (answers m)
         by (Some a) is = serve_rowed a.0 a.1 (subst (λ o. AreOfActions (brought_by o)) is brings)
+
+  -- where nothing is asked or answered, at a server without objects
+  module _ (d : Disk) (t : Parts) (from : ℕ) (ls : List Line) (none : IsEmpty t.server) where
+    other_silent : (m : Message) → RowedBy (handle_other k d t from m) ls
+    other_silent (message.Told m) = by (last_end m.ends)
+      where
+        acks : (u : Uid) (b : Bool) → AreFree (ack_told from u b)
+        acks u true = (tt, tt)
+        acks u false = tt
+
+        by : (o : Option (Uid × End)) → RowedBy (handle_ends k d t from m.ack m.ends o) ls
+        by None = tt
+        by (Some p) =
+            let fronts = store_told k p.0 p.1 d.store ++ (naming_told p.0 p.1 d.names t.naming).outs in
+            let outs = (apply_ends k m.ends t.server).outs in
+            free_rowed ((fronts ++ outs) ++ ack_told from p.0 m.ack) ls (all_append (SaidIn IsFreeLine) (fronts ++ outs) (ack_told from p.0 m.ack)
+            (all_append (SaidIn IsFreeLine) fronts outs (still_free fronts (fronts_still p.0 p.1 d t)) (ends_free m.ends t.server none))
+            (acks p.0 m.ack))
+    other_silent (message.Invoke m) = tt
+    other_silent (message.Vote m) = tt
+    other_silent m = free_by (handle_other k d t from m) ls (other_all IsFreeLine others_free k d t from m (record {
+      server = λ u g f c. absurd (⊎_elim {C = ⊥} (no_end (u, g)) (no_end (u, g)) c);
+      naming = λ u g f c. absurd (no_end (u, g) c);
+      store = λ u g c. absurd (no_end (u, g) c);
+      names = λ u g c. absurd (no_end (u, g) c);
+      orphans = λ u g o act c. absurd (no_end (u, g) c);
+    }))
+
+    pub silent_rowed : (m : Message) → asks m ≡ None → answers m ≡ None → RowedBy (handle k d t from m) ls
+    silent_rowed m asks_none answers_none = subst (λ z. RowedBy z ls)
+        (sym (ap (handle_ask k d t from m) asks_none ∙ ap (handle_answer k d t from m) answers_none)) (other_silent m)

@@ -1,21 +1,24 @@
--- The row of servers' ends, but in a restart: where a server says that it was told, a lock of the action or of one below it is in the table
+-- The row of servers' ends: where a server says that it was told, a lock of the action or of one below it is in the table
 -- of its node, and the action ended so.
 use Rattle.arj_law_parts.proofs.Words
 use Words.{⊤, ◌≡◌, ◌≤◌, ◌⊎◌, ◌∙◌, ◌==◌, ◌&&◌, ◌||◌, ◌++◌, ◌+◌, not, ℕ, Bool, true, false, if◌then◌else◌, List, [], ◌∷◌, length, Some, None}
 use Words.{refl, sym, ap, subst, arith, inl, inr, ⊎_elim, and_parts, list_all, list_any, AllByRecursion, Contains, In, in_from, in_to, is_on}
 use Words.{uid_eq, nobody, Body, End, Event, Header, Line, Message, Start, Uid, Disk, Do, Effect, Say, Send, Handled, Parts}
 use Words.{Took, Void, handle, holders, query_about, AreAll, is_coord_effect, is_coord_line, acts as does, acts_own, again_all}
-use Words.{again_own, all_both, begin_action, parent_of, restart_outs, tick_outs, tolds_again, tolds_again_own, World, Arm}
+use Words.{again_own, all_both, begin_action, parent_of, restart_outs, tick_outs, tolds_again, tolds_again_own, World, Arm, Post, counted}
 use Words.{Seen, run_event, numbered, map}
 use Words.body
 use Words.ending
+use Words.event
 use Words.input
 use Words.part
 use Rattle.arj_law_parts.proofs.moves.Happens.{Wide, arms_hold, wide_steps}
 use Rattle.arj_law_parts.proofs.steps.Still.{Still, outs_of, says_still, taken_good}
-use Rattle.arj_law_parts.specs.moves.Moments.{Moment, up}
+use Rattle.arj_law_parts.specs.moves.Moments as moments
+use Rattle.arj_law_parts.specs.moves.Moments.{History, MayTake, Moment, come, up}
 use Rattle.arj_law_parts.specs.moves.Seen.{is_quiet_line}
 use Rattle.arj_law_parts.specs.moves.Seen as seen
+use Rattle.arj_law_parts.specs.moves.With.{look}
 use Rattle.arj_law_parts.specs.parts.Ends.{brought, told_by}
 use Rattle.arj_law_parts.specs.steps.Spoken.{SaidIn}
 use Rattle.arj_law_runs.proofs.kept.Walked.{same_number}
@@ -27,6 +30,7 @@ use Rattle.arj_law_serial.proofs.holding.Running.{Showing, showing_kept}
 use Rattle.arj_law_serial.proofs.holding.Says as saying
 use Rattle.arj_law_serial.specs.past.Told.{ArePastIn, IsPast, SaysPast, ToldPast, live_in}
 use Rattle.arj_model.specs.Actions.{begun_of}
+use Rattle.arj_model.specs.Caused.{has_cause}
 use Rattle.arj_model.specs.CauseLocks.{has_end_of, is_restart}
 use Rattle.arj_model.specs.CauseSpans.{Here, act_by, behind, here_at, holds_in}
 use Rattle.arj_model.specs.Follows.{Runs}
@@ -39,12 +43,12 @@ use Rattle.arj_law_cause.proofs.kinds.Committed.{IsDecided, committed_so, decide
 use Rattle.arj_law_cause.proofs.kinds.Ended.{IsOver, Known, known_all, message_ends, over_map}
 use Rattle.arj_law_cause.proofs.kinds.Lines.{tested_row}
 use Rattle.arj_law_cause.proofs.kinds.Over.{Ends, ends_quiet, ends_say}
-use Rattle.arj_law_cause.proofs.kinds.Rowed.{HasRow, IsTableOf, Rowed, RowedBy, message_rowed}
+use Rattle.arj_law_cause.proofs.kinds.Anew.{IsAnew, anew_step}
+use Rattle.arj_law_cause.proofs.kinds.Rowed.{HasRow, IsTableOf, Rowed, RowedBy, message_rowed, silent_rowed}
 use Rattle.arj_law_cause.proofs.kinds.Running.{Knows, row_run}
 use Rattle.arj_law_cause.proofs.kinds.Walks as walks
 use Rattle.arj_law_cause.specs.kinds.Kinds.{is_told_by_server}
-use Rattle.arj_law_cause.specs.kinds.Rows.{TestHolds, TestedStep, tested}
-use Rattle.arj_law_cause.specs.kinds.Tests.{is_told_caused}
+use Rattle.arj_law_cause.specs.kinds.Rows.{RowHolds, RowStep, TestedStep, row, tested}
 
 -- ---- lines
 
@@ -58,9 +62,9 @@ of b = false
 abbrev has_row : Here → ℕ → Uid → Bool
 has_row h n u = list_any (λ row. is_in_part part.Server row && is_on row.holder u) (table n h.lines)
 
--- whoever is aborted is over, and the table has the row, but in a restart; and a node starts anew in one
+-- whoever is aborted is over, and the table has the row; and a node starts anew in a restart
 abbrev passes : Here → Body → Bool
-passes h (body.Told n u f part.Server) = is_over_by h (body.Told n u f part.Server) && (is_restart h.event || has_row h n u)
+passes h (body.Told n u f part.Server) = is_over_by h (body.Told n u f part.Server) && has_row h n u
 passes h (body.Up n i) = is_restart h.event
 passes h b = true
 
@@ -126,25 +130,19 @@ all_ends P (e ∷ ends) each = (
 
 -- ---- what a node says at a message
 
--- in a restart no row is asked for
-restart_rowed : (k e : ℕ) (es : List Effect) (ls : List Line) → Rowed true k e es ls
-restart_rowed k e [] ls = tt
-restart_rowed k e (Do w ∷ es) ls = restart_rowed k e es ls
-restart_rowed k e (Send to m ∷ es) ls = λ more are. restart_rowed k e es (ls ++ numbered e more)
-restart_rowed k e (Say b ∷ es) ls = (one b, restart_rowed k e es (ls ++ numbered e (b ∷ [])))
-  where
-    one : (b : Body) → HasRow true k e ls b
-    one (body.Told n u f part.Server) = refl
-    one b = tt
+-- a restart, as moments have it
+restart_is : (e : Event) → is_restart e ≡ true → moments.is_restart e ≡ true
+restart_is (event.Restart n) is = refl
+restart_is e is = absurd (cc is)
 
 module _ (hd : Header) (st : Start) (q : Past) (e : Event) (w : World) (shown : IsShown hd w) (lines_are : q.lines ≡ w.lines)
     (count_is : q.count ≡ w.event) where
   abbrev Number : ℕ
   Number = w.event + 1
 
-  -- what is known in the event: tables show locks, but those of a node that starts anew in it
+  -- what is known in the event: tables show locks, but those of a node that starts anew in it, whose server is empty while it restarts
   abbrev InIt : Moment → Type 0
-  InIt M = Known hd M × Wide (Showing hd (length w.lines) Number) M
+  InIt M = Known hd M × (Wide (Showing hd (length w.lines) Number) M × IsAnew Number M)
 
   abbrev Inside : Moment → Type 0
   Inside = walks.Inside passes hd of quiet no_halt st q e
@@ -162,7 +160,7 @@ module _ (hd : Header) (st : Start) (q : Past) (e : Event) (w : World) (shown : 
   coord_effects = saying.kind_says is_none is_coord_effect is_coord_line (λ b. refl) coord_none
 
   one_passes : (k : ℕ) (ls : List Line) (b : Body) → says_still (Say b) ≡ true → IsOver (Ends ls) b →
-      HasRow (is_restart e) k (q.count + 1) ls b → tested passes (λ g. of) (at ls) b ≡ true
+      HasRow k (q.count + 1) ls b → tested passes (λ g. of) (at ls) b ≡ true
   one_passes k ls (body.Up n i) still over row = absurd (cc still)
   one_passes k ls (body.Told n u ending.Abort part.Server) still over row = λ i. over i && row i
   one_passes k ls (body.Told n u ending.Commit part.Server) still over row = row
@@ -173,7 +171,7 @@ module _ (hd : Header) (st : Start) (q : Past) (e : Event) (w : World) (shown : 
   begins_none b is = refl
 
   served_well : (k : ℕ) (K : Uid → Type 0) (es : List Effect) (ls : List Line) → AllByRecursion (SaidIn (IsOver K)) es →
-      saying.All is_steady es → Still es → Rowed (is_restart e) k (q.count + 1) es ls → ((u : Uid) → K u → Ends ls u) → Well es ls
+      saying.All is_steady es → Still es → Rowed k (q.count + 1) es ls → ((u : Uid) → K u → Ends ls u) → Well es ls
   served_well k K [] ls all steady still rows ends = tt
   served_well k K (Do x ∷ es) ls all steady still rows ends = served_well k K es ls all.1 steady
       (and_parts (says_still (Do x)) (list_all says_still es) still).1 rows ends
@@ -188,7 +186,7 @@ module _ (hd : Header) (st : Start) (q : Past) (e : Event) (w : World) (shown : 
       steady (and_parts (says_still (Send to m)) (list_all says_still es) still).1 (rows more are)
       (λ u its. ends_quiet ls (q.count + 1) more u are (ends u its))
 
-  -- tables show the locks of a node that takes a message, but in a restart
+  -- tables show the locks of a node that takes a message, and did not start in the event
   module _ (k : ℕ) (d : Disk) (t : Parts) (M : Moment) (known : InIt (up k d t M)) (h : Inside M) where
     lines_now : M.seen.lines ≡ w.lines ++ numbered Number h.wrote
     lines_now = h.lines ∙ (λ i. lines_are i ++ numbered (count_is i + 1) h.wrote)
@@ -203,20 +201,30 @@ module _ (hd : Header) (st : Start) (q : Past) (e : Event) (w : World) (shown : 
         ∙ same_start k Number (up_of k w.lines) h.wrote none)
         ∙ later_off (up_of k w.lines) w.event (shown.early k)
 
-    shown_now : is_restart e ≡ false → IsTableOf false k (q.count + 1) t.server M.seen.lines
-    shown_now other x =
-        let z = known.1.2.2 in
+    shown_now : (Number == up_of k M.seen.lines) ≡ false → IsTableOf k (q.count + 1) t.server M.seen.lines
+    shown_now off x =
+        let z = known.1.0.2.2 in
         let s : ShowsLocks k M.seen.lines (memory_of ((up k d t M).seen.nodes k)) = z.shown
-        (subst (Since Number (length w.lines)) (sym lines_now) (since_all Number h.wrote w.lines)) k (start_off other) in
+        (subst (Since Number (length w.lines)) (sym lines_now) (since_all Number h.wrote w.lines)) k off in
         (let r : ShowsLocks k M.seen.lines (Some t) = subst (ShowsLocks k M.seen.lines) here s in r.server x)
 
     rowed : (v : Parts) (from : ℕ) (m : Message) (outs : List Effect) →
-        seen.In (record { from = from; to = k; message = m }) M.seen.sent → handle k d t from m ≡ Took v outs →
-        (b : Bool) → is_restart e ≡ b → Rowed b k (q.count + 1) outs M.seen.lines
-    rowed v from m outs there is true restarts = restart_rowed k (q.count + 1) outs M.seen.lines
-    rowed v from m outs there is false other =
-        subst (λ z. RowedBy false k (q.count + 1) z M.seen.lines) is
-        (message_rowed false k (q.count + 1) d t from M.seen.lines told.keys (shown_now other) m
+        seen.In (record { from = from; to = k; message = m }) M.seen.sent → MayTake M.past.event m → handle k d t from m ≡ Took v outs →
+        (b : Bool) → (Number == up_of k M.seen.lines) ≡ b → Rowed k (q.count + 1) outs M.seen.lines
+    rowed v from m outs there may is true new = by (is_restart e) refl
+      where
+        by : (b : Bool) → is_restart e ≡ b → Rowed k (q.count + 1) outs M.seen.lines
+        by false other = absurd (cc (sym (start_off other) ∙ new))
+        by true restarts =
+            let r : moments.is_restart M.past.event ≡ true = ap moments.is_restart h.event ∙ restart_is e restarts in
+            let nothing = may r in
+            subst (λ z. RowedBy k (q.count + 1) z M.seen.lines) is (silent_rowed k (q.count + 1) d t from M.seen.lines
+            (known.1.1 r k (record { number = k; disk = d; live = Some t }) t
+            (λ i. if same_number k i then Some (record { number = k; disk = d; live = Some t }) else M.seen.nodes k) refl new)
+            m nothing.0 nothing.1)
+    rowed v from m outs there may is false off =
+        subst (λ z. RowedBy k (q.count + 1) z M.seen.lines) is
+        (message_rowed k (q.count + 1) d t from M.seen.lines told.keys (shown_now off) m
         (all_ends (λ u. uid_eq nobody u ≡ false) (brought m) (λ u f c. of_past u (says.brings u f c)))
         (all_ends (λ u. uid_eq nobody u ≡ false) (told_by m) (λ u f c. of_past u (says.told u f c))))
       where
@@ -237,9 +245,9 @@ module _ (hd : Header) (st : Start) (q : Past) (e : Event) (w : World) (shown : 
             (λ i. if same_number k i then Some (record { number = k; disk = d; live = Some t }) else M.seen.nodes k) in n.live t refl)
 
         of_past : (u : Uid) → IsPast base.2.0 (λ j. live_in (S.nodes j)) u → uid_eq nobody u ≡ false
-        of_past u past =
+        of_past u its =
             let good = base.2.1.0.1.0 in
-            someone u (on_path base.2.0 good.begun base.2.1.1.0.1 past.0.0 (in_from past.0.0 base.2.0 past.0.1) u past.0.2)
+            someone u (on_path base.2.0 good.begun base.2.1.1.0.1 its.0.0 (in_from its.0.0 base.2.0 its.0.1) u its.0.2)
 
   well : walks.SaysWell passes hd of quiet no_halt st q e InIt
   well = record {
@@ -248,7 +256,7 @@ module _ (hd : Header) (st : Start) (q : Past) (e : Event) (w : World) (shown : 
         ⊎_elim {C = Well outs M.seen.lines} (λ own. none_well outs M.seen.lines (coord_effects outs own))
         (λ steady. served_well k (Ends M.seen.lines) outs M.seen.lines r.1 steady
         (subst (λ (x : Handled). Still (outs_of x)) ((λ i. if meant i then handle k d t from m else Void []) ∙ is) (taken_good k d t from m))
-        (rowed k d t M known h v from m outs there is (is_restart e) refl) (λ u its. its))
+        (rowed k d t M known h v from m outs there may is (Number == up_of k M.seen.lines) refl) (λ u its. its))
         (coord_or_steady k d t v r.0 from m outs is);
     act = λ k d t i M is brings fresh asks free known h. none_well (does i d.intents t.coord).outs M.seen.lines
         (coord_effects (does i d.intents t.coord).outs (acts_own i d.intents t.coord));
@@ -282,11 +290,15 @@ armed_shown hd w arms h = record { known = arms_hold hd Base arms w h.known; sho
 least : (n : ℕ) → n ≤ n
 least n = omega arith
 
+-- as an event comes no node started in it
+early_anew : (hd : Header) (w : World) → IsShown hd w → (g : History) (sent : List Post) → IsAnew (w.event + 1) (look g sent (counted w))
+early_anew hd w b g sent r j n t there its new = absurd (cc (sym (later_off (up_of j w.lines) w.event (b.early j)) ∙ new))
+
 -- what is known of worlds: tables show locks between events
 abbrev shown_knows : (hd : Header) → Knows hd (Known hd)
 shown_knows hd = record {
   Between = IsShown hd;
-  In = λ w M. Known hd M × Wide (Showing hd (length w.lines) (w.event + 1)) M;
+  In = λ w M. Known hd M × (Wide (Showing hd (length w.lines) (w.event + 1)) M × IsAnew (w.event + 1) M);
   first = λ st formed. first_is_shown hd st formed;
   next = λ m w h. armed_shown hd (run_event m.asked (record w { arms = m.falls })) []
       (event_shown hd (record w { arms = m.falls }) (armed_shown hd w m.falls h) m.asked);
@@ -294,20 +306,25 @@ shown_knows hd = record {
   opens = λ w e g sent b c. (
     c,
     (
-      c.1.0,
-      c.1.1,
       (
-        c.1.2.0,
-        c.1.2.1,
-        record {
-          long = least (length w.lines);
-          shown = λ since n off. b.shown n;
-        },
+        c.1.0,
+        c.1.1,
+        (
+          c.1.2.0,
+          c.1.2.1,
+          record {
+            long = least (length w.lines);
+            shown = λ since n off. b.shown n;
+          },
+        ),
       ),
+      early_anew hd w b (come e g) sent,
     ),
   );
-  steps = λ w b. steps_both hd (Known hd) (Wide (Showing hd (length w.lines) (w.event + 1))) (let k = known_all hd in k.steps)
-      (wide_steps hd ⊤ (Showing hd (length w.lines) (w.event + 1)) (showing_kept hd (length w.lines) (w.event + 1) ⊤ tt));
+  steps = λ w b. let event = w.event + 1 in
+      steps_both hd (Known hd) (λ M. Wide (Showing hd (length w.lines) event) M × IsAnew event M) (let k = known_all hd in k.steps)
+      (steps_both hd (Wide (Showing hd (length w.lines) event)) (IsAnew event)
+      (wide_steps hd ⊤ (Showing hd (length w.lines) event) (showing_kept hd (length w.lines) event ⊤ tt)) (anew_step event hd));
   back = λ w M c. c.0;
 }
 
@@ -332,19 +349,18 @@ fewer_along test all some to hd (e ∷ es) p end a =
 -- what is so of a line of these kinds: nothing is asked of one by which a node starts anew
 abbrev told_or_starts : Here → Body → Bool
 told_or_starts h (body.Up n i) = true
-told_or_starts h b = is_told_caused h b
+told_or_starts h b = has_cause h b
 
-either_so : (r over row its : Bool) → (over && (r || row)) ≡ true → (over ≡ true → its ≡ true) → (r || (row && its)) ≡ true
-either_so true over row its is to = refl
-either_so false true true its is to = to refl
-either_so false true false its is to = absurd (cc is)
-either_so false false row its is to = absurd (cc is)
+both_so : (over row its : Bool) → (over && row) ≡ true → (over ≡ true → its ≡ true) → (row && its) ≡ true
+both_so true true its is to = to refl
+both_so true false its is to = absurd (cc is)
+both_so false row its is to = absurd (cc is)
 
 to_cause : (h : Here) (b : Body) → of b ≡ true → IsDecided h.lines b → passes h b ≡ true → told_or_starts h b ≡ true
-to_cause h (body.Told n u ending.Abort part.Server) its k is = either_so (is_restart h.event)
+to_cause h (body.Told n u ending.Abort part.Server) its k is = both_so
     (is_over_by h (body.Told n u ending.Abort part.Server)) (has_row h n u)
     (holds_in (λ a. has_end_of h.lines a ending.Abort) (act_by h.lines u)) is (λ over. over)
-to_cause h (body.Told n u ending.Commit part.Server) its k is = either_so (is_restart h.event) true (has_row h n u)
+to_cause h (body.Told n u ending.Commit part.Server) its k is = both_so true (has_row h n u)
     (holds_in (λ a. has_end_of h.lines a ending.Commit) (act_by h.lines u)) is
     (λ over. committed_so h u k.distinct k.caused)
 to_cause h (body.Up n i) its k is = refl
@@ -355,22 +371,22 @@ server_told (body.Told n u f part.Server) is = refl
 server_told b is = absurd (cc is)
 
 told_so : (h : Here) (bs : List Body) → are_so (tested told_or_starts (λ g. is_told_by_server)) h bs ≡ true →
-    are_so (tested is_told_caused (λ g. is_told_by_server)) h bs ≡ true
+    are_so (row (λ g. is_told_by_server)) h bs ≡ true
 told_so h [] all = refl
 told_so h (b ∷ bs) all =
     let p = and_parts (tested told_or_starts (λ g. is_told_by_server) h b) (are_so (tested told_or_starts (λ g. is_told_by_server)) (behind h b) bs)
     all in λ i. one b p.0 i && told_so (behind h b) bs p.1 i
   where
-    one : (b : Body) → tested told_or_starts (λ g. is_told_by_server) h b ≡ true → tested is_told_caused (λ g. is_told_by_server) h b ≡ true
+    one : (b : Body) → tested told_or_starts (λ g. is_told_by_server) h b ≡ true → row (λ g. is_told_by_server) h b ≡ true
     one (body.Up n i) is = refl
     one b is = is
 
 told_along : (hd : Header) (es : List Event) (p end : Past) → Along (TestedStep told_or_starts (λ h. is_told_by_server) hd) p es end →
-    Along (TestedStep is_told_caused (λ h. is_told_by_server) hd) p es end
+    Along (RowStep (λ h. is_told_by_server) hd) p es end
 told_along hd [] p end a = a
 told_along hd (e ∷ es) p end a = (a.0, told_so (here_at hd p e a.0) a.0 a.1, told_along hd es (next p e a.0) end a.2)
 
-pub served_row : TestHolds is_told_caused is_told_by_server
+pub served_row : RowHolds is_told_by_server
 served_row hd r form =
     let lines = journal_by hd r in
     let keeps = known_all hd in

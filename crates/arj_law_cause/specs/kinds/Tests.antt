@@ -4,10 +4,9 @@ use Rattle.std.specs.List.{list_any}
 use Rattle.arj_journal.specs.declared.body.Body.{Body}
 use Rattle.arj_journal.specs.declared.body.Body.TheVariants as body
 use Rattle.arj_journal.specs.declared.body.Line.{Line}
-use Rattle.arj_model.specs.CauseLocks.{has_end_of, is_restart}
+use Rattle.arj_model.specs.CauseLocks.{has_end_of}
 use Rattle.arj_model.specs.CauseNodes.{is_state, shows_object}
 use Rattle.arj_model.specs.CauseSpans.{Here, act_by, holds_in}
-use Rattle.arj_model.specs.Caused.{has_cause}
 use Rattle.arj_model.specs.Last.{entry_from, is_among, last_from, listed, object_line, same_list, servers_of_line}
 use Rattle.arj_model.specs.Refusals.{is_down}
 use Rattle.arj_law_cause.specs.kinds.Kinds.{is_entry_shown}
@@ -16,10 +15,6 @@ use Rattle.arj_law_cause.specs.kinds.Kinds.{is_entry_shown}
 abbrev pub is_told_so : Here → Body → Bool
 is_told_so h (body.Told n u e p) = holds_in (λ a. has_end_of h.lines a e) (act_by h.lines u)
 is_told_so h _ = true
-
--- `told` of a server, but in a restart: the line has its cause, whole.
-abbrev pub is_told_caused : Here → Body → Bool
-is_told_caused h b = is_restart h.event || has_cause h b
 
 -- `entry`. The event shows the object, and its entry is as the lines before the event say, counted from where the run began.
 abbrev pub is_entry_so : Here → Body → Bool

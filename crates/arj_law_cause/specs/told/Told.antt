@@ -11,7 +11,7 @@ use Rattle.arj_law_cause.specs.kinds.Kinds.{is_abort_done, is_armed, is_commit_d
 use Rattle.arj_law_cause.specs.kinds.Kinds.{is_found, is_got, is_halted, is_limit, is_opening, is_quiet, is_sent, is_told}
 use Rattle.arj_law_cause.specs.kinds.Kinds.{is_told_by_server, is_up, is_void}
 use Rattle.arj_law_cause.specs.kinds.Rows.{RowStep, TestedStep}
-use Rattle.arj_law_cause.specs.kinds.Tests.{is_copy_so, is_entry_so, is_told_caused, is_told_so}
+use Rattle.arj_law_cause.specs.kinds.Tests.{is_copy_so, is_entry_so, is_told_so}
 use Rattle.arj_law_cause.specs.rows.Lines.{AnswersStep}
 use Rattle.arj_law_cause.specs.waits.replies.Ends.{RepliesStep}
 
@@ -51,8 +51,8 @@ pub record TellsNodes (hd : Header) (st : Start) (es : List Event) (journal : Li
   pub undone : HaveCauses is_abort_done hd st es journal
   -- an action ended as a node says that it was told
   pub told : Runs (TestedStep is_told_so (λ h. is_told) hd) st es journal
-  -- and, but in a restart, a server that says so has a lock of it
-  pub served : Runs (TestedStep is_told_caused (λ h. is_told_by_server) hd) st es journal
+  -- and a server that says so has a lock of it
+  pub served : HaveCauses is_told_by_server hd st es journal
 
 -- What goes between nodes, and when a run rests.
 pub record TellsWorld (hd : Header) (st : Start) (es : List Event) (journal : List Line) : Type 0 where
