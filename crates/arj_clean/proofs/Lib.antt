@@ -1,0 +1,4 @@
+mod Bytes
+mod Held
+mod Payloads
+mod Taken
