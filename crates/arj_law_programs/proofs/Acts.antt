@@ -126,7 +126,8 @@ path_own [] good i l of = tt
 path_own (u ∷ us) good i l of = by (λ m. path_own us good.1 i m) (bytes_eq u.label l) refl
   where
     up : ((m : List ℕ) → IsOf i m → IsOwnPath us i (path us m)) → IsOwn (u ∷ us) i u →
-        (j : ℕ) → j ≡ i → (p : Option (List ℕ)) (k : Kind) → u.kind ≡ k → IsInOwn j p k → IsOwnPath (u ∷ us) i (upwards p k (path us) ++ u ∷ [])
+        (j : ℕ) → j ≡ i → (p : Option (List ℕ)) (k : Kind) → u.kind ≡ k → IsInOwn j p k →
+        IsOwnPath (u ∷ us) i (upwards p k (path us) ++ u ∷ [])
     up ih own j same None k are is = (own, tt)
     up ih own j same (Some p) k are is =
         subst (λ m. IsOwnPath (u ∷ us) i (upwards (Some p) m (path us) ++ u ∷ [])) (sym is.1)
@@ -170,7 +171,8 @@ act_of_path (u ∷ us) l p a e = by (λ is. act_of_path us l p a is) (bytes_eq u
     ends (z ∷ w ∷ q) [] x y e = cc
     ends (z ∷ q) (w ∷ r) x y e = ends q r x y (let t : q ++ x ∷ [] ≡ r ++ y ∷ [] = cc in t)
 
-    by : (path us l ≡ p ++ a ∷ [] → act_in us l ≡ Some a) → (b : Bool) → cond b (upwards u.parent u.kind (path us) ++ u ∷ []) (path us l) ≡ p ++ a ∷ [] →
+    by : (path us l ≡ p ++ a ∷ [] → act_in us l ≡ Some a) → (b : Bool) →
+        cond b (upwards u.parent u.kind (path us) ++ u ∷ []) (path us l) ≡ p ++ a ∷ [] →
         cond b (Some u) (act_in us l) ≡ Some a
     by ih true is = ap Some (ends (upwards u.parent u.kind (path us)) p u a is)
     by ih false is = ih is
@@ -179,7 +181,8 @@ pub found_in : (us : List Act) (l : List ℕ) (a : Act) → act_in us l ≡ Some
 found_in [] l a e = absurd (cc e)
 found_in (u ∷ us) l a e = by (λ is. found_in us l a is) (bytes_eq u.label l) refl e
   where
-    by : (act_in us l ≡ Some a → In a us × (a.label ≡ l)) → (b : Bool) → bytes_eq u.label l ≡ b → cond b (Some u) (act_in us l) ≡ Some a → In a (u ∷ us) × (a.label ≡ l)
+    by : (act_in us l ≡ Some a → In a us × (a.label ≡ l)) → (b : Bool) → bytes_eq u.label l ≡ b →
+        cond b (Some u) (act_in us l) ≡ Some a → In a (u ∷ us) × (a.label ≡ l)
     by ih true same is =
         let it : u ≡ a = cc in (inl it, sym (ap (λ (x : Act). x.label) it) ∙ same_label u.label l same)
     by ih false same is = let r = ih is in (inr r.0, r.1)
@@ -189,7 +192,8 @@ pub no_path : (us : List Act) (l : List ℕ) → act_in us l ≡ None → path u
 no_path [] l e = refl
 no_path (u ∷ us) l e = by (λ is. no_path us l is) (bytes_eq u.label l) e
   where
-    by : (act_in us l ≡ None → path us l ≡ []) → (b : Bool) → cond b (Some u) (act_in us l) ≡ None → cond b (upwards u.parent u.kind (path us) ++ u ∷ []) (path us l) ≡ []
+    by : (act_in us l ≡ None → path us l ≡ []) → (b : Bool) → cond b (Some u) (act_in us l) ≡ None →
+        cond b (upwards u.parent u.kind (path us) ++ u ∷ []) (path us l) ≡ []
     by ih true is = absurd (cc is)
     by ih false is = ih is
 

@@ -1,5 +1,6 @@
 -- What each event of a run wrote, as the events of a trace have it.
-use Rattle.std.proofs.Common.{◌≡◌, ◌∙◌, ◌<◌, ◌⊎◌, inl, inr, ℕ, ◌+◌, List, [], ◌∷◌, ◌++◌, length, map, refl, ap, sym, subst, arith, true, false}
+use Rattle.std.proofs.Common.{◌≡◌, ◌∙◌, ◌<◌, ◌⊎◌, inl, inr, ℕ, ◌+◌, List, [], ◌∷◌, ◌++◌, length, map, refl, ap, sym, subst, arith, true}
+use Rattle.std.proofs.Common.{false}
 use Rattle.std.proofs.Common.{Bool, cond, ◌==◌, append-nil, eq-eqb, eqb-true, true≢false, ◌&&◌}
 use Rattle.std.specs.Prelude.{⊤, filter}
 use Rattle.std.specs.List.{AllByRecursion, flat_map}
@@ -16,7 +17,7 @@ use Rattle.arj_progrun.specs.Stepped.{AreNumbered, are_of}
 use Rattle.arj_start.specs.Start.{fresh}
 use Rattle.arj_law_programs.proofs.Acts.{all_append, all_map}
 use Rattle.arj_law_programs.proofs.Keeping.{other_number}
-use Rattle.arj_law_programs.specs.Fits.{bodies_of}
+use Rattle.arj_law_programs.proofs.Fits.{bodies_of}
 
 -- ---- lists
 
@@ -114,7 +115,8 @@ ending_behind n m (l ∷ k ∷ ls) low e = absurd e
 -- What holds of an event; of the last one, a quiesce, perhaps but for a line outside of events that stands behind.
 abbrev pub Tolerant : (Past → Event → List Body → Type 0) → Past → Event → List Body → Type 0
 Tolerant P past e bs =
-    P past e bs ⊎ ((e ≡ event.Quiesce) × ((front : List Body) × (x : Body) × (bs ≡ front ++ x ∷ []) × (is_ending x ≡ true) × P past e front))
+    P past e bs ⊎ ((e ≡ event.Quiesce) × ((front : List Body) × (x : Body) × (bs ≡ front ++ x ∷ []) × (is_ending x ≡ true)
+    × P past e front))
 
 abbrev pub TraceHas : (Past → Event → List Body → Type 0) → Past → List Given → Type 0
 TraceHas P past [] = ⊤
@@ -140,7 +142,8 @@ module _ (P : Past → Event → List Body → Type 0) where
   last_has past g end ending quiet (bodies, step, is) same last =
       by ending last (ap bodies_of (sym (append-nil g.lines) ∙ cancel past.lines (g.lines ++ []) (block (past.count + 1) bodies ++ ending)
       (same ∙ (λ i. (let e = sym is i in e.lines) ++ ending) ∙ append_assoc past.lines (block (past.count + 1) bodies) ending))
-      ∙ map-append (λ (l : Line). l.body) (block (past.count + 1) bodies) ending ∙ ap (λ bs. bs ++ bodies_of ending) (bodies_block (past.count + 1) bodies))
+      ∙ map-append (λ (l : Line). l.body) (block (past.count + 1) bodies) ending
+      ∙ ap (λ bs. bs ++ bodies_of ending) (bodies_block (past.count + 1) bodies))
     where
       by : (ls : List Line) → AreEnding (past.count + 1) ls → bodies_of g.lines ≡ bodies ++ bodies_of ls →
           Tolerant P past g.event (bodies_of g.lines)
@@ -174,7 +177,8 @@ module _ (P : Past → Event → List Body → Type 0) where
             (subst (λ bs. Along P (next past g.event bs) (map (λ (x : Given). x.event) (h ∷ gs)) end) one rest)
             (append_assoc past.lines (block (past.count + 1) (bodies_of g.lines)) (lines_of (h ∷ gs))
             ∙ ap (λ ls. past.lines ++ (ls ++ lines_of (h ∷ gs))) (sym (block_of (past.count + 1) g.lines numbers.0)) ∙ same)
-            (subst (λ k. AreEnding k ending) (let e : past.count + length (g ∷ h ∷ gs) ≡ past.count + 1 + length (h ∷ gs) = omega arith in e) last)
+            (subst (λ k. AreEnding k ending) (let e : past.count + length (g ∷ h ∷ gs) ≡ past.count + 1 + length
+            (h ∷ gs) = omega arith in e) last)
             numbers.1 quiet,
       )
     where

@@ -20,7 +20,8 @@ use Rattle.arj_prog.specs.Listing.{Listing}
 use Rattle.arj_prog.specs.declared.statements.Statement.{Statement}
 use Rattle.arj_prog.specs.declared.statements.Statement.TheVariants as statement
 use Rattle.arj_progrun.specs.Client.{Ask, Begins, BeginsIn, Calls, Client, GivesUp, Level, Other, Quiesces, asking, asks_by, asks_for}
-use Rattle.arj_progrun.specs.Client.{asks_next, attempt, begins, cut, enters, inner, inner_of, inside, inside_at, is_over, is_waiting, leaves, level}
+use Rattle.arj_progrun.specs.Client.{asks_next, attempt, begins, cut, enters, inner, inner_of, inside, inside_at, is_over, is_waiting}
+use Rattle.arj_progrun.specs.Client.{leaves, level}
 use Rattle.arj_progrun.specs.Client.{next_label, refused_at, said_by, stands, turned, unbegun, waits_on}
 use Rattle.arj_progrun.specs.Events.{ask_of}
 use Rattle.arj_progrun.specs.declared.client.TheConstants.{PATIENCE}
@@ -41,7 +42,8 @@ use Rattle.arj_law_programs.proofs.Views.{View}
 abbrev pub asks_with : Event → Asked → Asks → Asks
 asks_with e x asks l = asks l ++ (if is_ask_by l e then x ∷ [] else [])
 
-pub asks_more : (accepted : List Asked) (x : Asked) → asks_with x.event x (refusals.asks_by accepted) ≡ refusals.asks_by (accepted ++ x ∷ [])
+pub asks_more : (accepted : List Asked) (x : Asked) →
+    asks_with x.event x (refusals.asks_by accepted) ≡ refusals.asks_by (accepted ++ x ∷ [])
 asks_more accepted x i l = sym (filter-append (λ a. is_ask_by l a.event) accepted (x ∷ [])) i
 
 -- it is no call
@@ -100,7 +102,8 @@ calls_still phase.Entering asks more m o same c = tt
 calls_still phase.Beginning asks more m o same c = tt
 calls_still _ asks more m o same c = c
 
-elsewhere_asks : (ask : Ask) (e : Event) (i : ℕ) (l : List ℕ) → ask_of e ≡ ask → NotOther ask → IsElsewhere i ask → IsOf i l → is_ask_by l e ≡ false
+elsewhere_asks : (ask : Ask) (e : Event) (i : ℕ) (l : List ℕ) → ask_of e ≡ ask → NotOther ask → IsElsewhere i ask → IsOf i l →
+    is_ask_by l e ≡ false
 elsewhere_asks (Calls m x op) e i l is other not of = by (bytes_eq m l) refl
   where
     by : (b : Bool) → bytes_eq m l ≡ b → is_ask_by l e ≡ false
@@ -119,7 +122,8 @@ other_asked v asks ans c e x other not h =
       label = t.label;
       labels = t.labels;
       opens = t.opens;
-      slack = λ l of. subst (λ xs. length xs ≤ ans l + pending c.phase (let m = inner_mark (mark_of c.top) (map mark_of c.blocks) in m.label) l)
+      slack = λ l of. subst (λ xs. length xs ≤ ans l + pending c.phase (let m = inner_mark (mark_of c.top)
+          (map mark_of c.blocks) in m.label) l)
           (sym (same_count asks e x l (elsewhere_asks (ask_of e) e c.number l refl other not of))) (t.slack l of);
       calls = calls_still c.phase asks (asks_with e x asks) (let m = inner_mark (mark_of c.top) (map mark_of c.blocks) in m.label) c.asked
           (same_count asks e x (let m = inner_mark (mark_of c.top) (map mark_of c.blocks) in m.label)
@@ -153,7 +157,8 @@ module _ (v : View) (asks : Asks) (ans : Counted) where
       ((l : List ℕ) → IsOf i l → length (asks l) ≤ ans l + 0) → (l : List ℕ) → IsOf i l → length (asks_with e x asks l) ≤ ans l + 0
   free_slack i m e x not slack l of = subst (λ xs. length xs ≤ ans l + 0) (sym (same_count asks e x l (no_ask e l not))) (slack l of)
 
-  begins_top : (c : Client) → c.blocks ≡ [] → Free phase.Entering c → AskedSo v asks ans (Begins (let t = c.top in t.label) c.node) (stands phase.Beginning c)
+  begins_top : (c : Client) → c.blocks ≡ [] → Free phase.Entering c →
+      AskedSo v asks ans (Begins (let t = c.top in t.label) c.node) (stands phase.Beginning c)
   begins_top c none t = record {
     accepted = λ e x is same. record {
       label = t.label;
@@ -221,15 +226,19 @@ module _ (v : View) (asks : Asks) (ans : Counted) where
           label = t.label;
           labels = t.labels;
           opens = t.opens;
-          slack = λ l of. more l (asks l) (bytes_eq (let z = inner_mark (mark_of d.top) (map mark_of d.blocks) in z.label) l) (is_ask_by l e) x
-              (call_by e (let z = inner d in z.label) r.x r.op l is ∙ ap (λ k. bytes_eq k l) (sym (inner_same d.top d.blocks))) (t.slack l of);
+          slack = λ l of. more l (asks l) (bytes_eq (let z = inner_mark (mark_of d.top) (map mark_of d.blocks) in z.label) l)
+              (is_ask_by l e) x
+              (call_by e (let z = inner d in z.label) r.x r.op l is
+              ∙ ap (λ k. bytes_eq k l) (sym (inner_same d.top d.blocks))) (t.slack l of);
           calls = (
             s,
             x,
             refl,
             ap last_asked (λ i. asks (let z = inner_mark (mark_of d.top) (map mark_of d.blocks) in z.label)
-                ++ cond ((call_by e (let z = inner d in z.label) r.x r.op (let z = inner_mark (mark_of d.top) (map mark_of d.blocks) in z.label) is
-                ∙ ap (λ k. bytes_eq k (let z = inner_mark (mark_of d.top) (map mark_of d.blocks) in z.label)) (sym (inner_same d.top d.blocks))
+                ++ cond ((call_by e (let z = inner d in z.label) r.x r.op (let z = inner_mark (mark_of d.top)
+                (map mark_of d.blocks) in z.label) is
+                ∙ ap (λ k. bytes_eq k (let z = inner_mark (mark_of d.top) (map mark_of d.blocks) in z.label)) (sym
+                (inner_same d.top d.blocks))
                 ∙ label_itself (let z = inner_mark (mark_of d.top) (map mark_of d.blocks) in z.label)) i) (x ∷ []) [])
                 ∙ last_more (asks (let z = inner_mark (mark_of d.top) (map mark_of d.blocks) in z.label)) x,
             ap ask_of same ∙ is ∙ ap (λ k. Calls k r.x r.op) (sym (inner_same d.top d.blocks)),
@@ -238,13 +247,15 @@ module _ (v : View) (asks : Asks) (ans : Counted) where
         };
         refused = record { label = t.label; labels = t.labels; opens = t.opens; slack = t.slack; calls = tt; done = tt };
         has = tt;
-        named = subst (IsOf d.number) (inner_same d.top d.blocks) (inner_label d.number (mark_of d.top) (map mark_of d.blocks) t.label t.labels);
+        named = subst (IsOf d.number) (inner_same d.top d.blocks) (inner_label d.number (mark_of d.top)
+            (map mark_of d.blocks) t.label t.labels);
         other = λ q. cc;
       }
     where
       more : (l : List ℕ) (xs : List Asked) (b asked : Bool) (x : Asked) → asked ≡ b → length xs ≤ ans l + 0 →
           length (xs ++ cond asked (x ∷ []) []) ≤ ans l + cond b 1 0
-      more l xs true asked x is few = subst (λ q. length (xs ++ cond q (x ∷ []) []) ≤ ans l + 1) (sym is) (omega (arith, few, length-append xs (x ∷ [])))
+      more l xs true asked x is few = subst (λ q. length (xs ++ cond q (x ∷ []) []) ≤ ans l + 1) (sym is) (omega
+          (arith, few, length-append xs (x ∷ [])))
       more l xs false asked x is few =
           let none : List Asked = [] in
           subst (λ q. length (xs ++ cond q (x ∷ []) []) ≤ ans l + 0) (sym is) (omega (arith, few, length-append xs none))
@@ -254,11 +265,13 @@ module _ (v : View) (asks : Asks) (ans : Counted) where
   asks_for_so (statement.Print x op) d t = calls_so (statement.Print x op) d t
   asks_for_so (statement.If x op wanted first second) d t = calls_so (statement.If x op wanted first second) d t
   asks_for_so (statement.Block retry body) d t =
-      let c = enters retry body d in begins_nested c (level (let l = inner d in l.label) body retry) d.blocks t.label t.labels refl t.opens t.slack
+      let c = enters retry body d in begins_nested c (level
+      (let l = inner d in l.label) body retry) d.blocks t.label t.labels refl t.opens t.slack
   asks_for_so statement.Fail d t = record { accepted = λ e x is same. tt; refused = tt; has = tt; named = tt; other = λ q. cc }
 
   -- with statements left behind
-  left_behind : (rest : Listing) (c : Client) (bs : List Level) → c.blocks ≡ bs → Free phase.Ready c → Free phase.Ready (inside_at bs (leaves rest) c)
+  left_behind : (rest : Listing) (c : Client) (bs : List Level) → c.blocks ≡ bs → Free phase.Ready c →
+      Free phase.Ready (inside_at bs (leaves rest) c)
   left_behind rest c [] is t = record {
     label = t.label;
     labels = t.labels;
@@ -271,7 +284,8 @@ module _ (v : View) (asks : Asks) (ans : Counted) where
       let u = subst (λ ls. Tracks v asks ans phase.Ready c.number c.asked (mark_of c.top) (map mark_of ls)) is t in
       record { label = u.label; labels = u.labels; opens = u.opens; slack = u.slack; calls = tt; done = tt }
 
-  asks_next_so : (o : Option (Statement × Listing)) (c : Client) → Free phase.Ready c → (let a = asks_next o c in Goes v asks ans a.ask a.client)
+  asks_next_so : (o : Option (Statement × Listing)) (c : Client) → Free phase.Ready c →
+      (let a = asks_next o c in Goes v asks ans a.ask a.client)
   asks_next_so None c t = record {
     accepted = λ e x is same. record {
       label = t.label;
@@ -283,7 +297,8 @@ module _ (v : View) (asks : Asks) (ans : Counted) where
     };
     refused = record { label = t.label; labels = t.labels; opens = t.opens; slack = t.slack; calls = tt; done = tt };
     has = (refl, refl);
-    named = subst (IsOf c.number) (inner_same c.top c.blocks) (inner_label c.number (mark_of c.top) (map mark_of c.blocks) t.label t.labels);
+    named = subst (IsOf c.number) (inner_same c.top c.blocks) (inner_label c.number (mark_of c.top)
+        (map mark_of c.blocks) t.label t.labels);
     other = λ q. cc;
   }
   asks_next_so (Some p) c t = asks_for_so p.0 (inside (leaves p.1) c) (left_behind p.1 c c.blocks refl t)

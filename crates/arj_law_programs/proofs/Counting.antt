@@ -32,7 +32,8 @@ module _ (e : List (Placed ℕ)) (f : List (Placed Uid)) (t : ℕ) (done : has_e
   same_chain (a ∷ p) = λ i. or_false (has_end e a.id) i && same_chain p i
 
   -- one call
-  one : (s : Placed Said) (o : Option Act) → (cs : List Call) → map told_of (filter (λ (c : Call). c.top == t) (cons_option (kept_in e f s o) cs))
+  one : (s : Placed Said) (o : Option Act) → (cs : List Call) →
+      map told_of (filter (λ (c : Call). c.top == t) (cons_option (kept_in e f s o) cs))
       ≡ cond (is_top t o && list_all (counts e []) (chain_in s.it.path)) (told_at s ∷ map told_of (filter (λ (c : Call). c.top == t) cs))
       (map told_of (filter (λ (c : Call). c.top == t) cs))
   one s None cs = refl
@@ -46,7 +47,8 @@ module _ (e : List (Placed ℕ)) (f : List (Placed Uid)) (t : ℕ) (done : has_e
 
       other : (a.id == t) ≡ false → (b : Bool) →
           map told_of (filter (λ (c : Call). c.top == t) (cons_option (cond b (Some (call_of s a)) None) cs)) ≡ rest
-      other is true = λ i. map told_of (cond (is i) (call_of s a ∷ filter (λ (c : Call). c.top == t) cs) (filter (λ (c : Call). c.top == t) cs))
+      other is true = λ i. map told_of (cond (is i) (call_of s a ∷ filter (λ (c : Call). c.top == t) cs) (filter (λ
+          (c : Call). c.top == t) cs))
       other is false = refl
 
       by : (b : Bool) → (a.id == t) ≡ b → (d : Bool) → list_all (counts e []) (chain_in s.it.path) ≡ d →
@@ -69,7 +71,8 @@ module _ (e : List (Placed ℕ)) (f : List (Placed Uid)) (t : ℕ) (done : has_e
       ∙ (λ i. cond (keeps e [] t s.it.path) (told_at s ∷ ih i) (ih i)) ∙ outside (keeps e [] t s.it.path)
     where
       outside : (b : Bool) → cond b (told_at s ∷ kept e [] t ss) (kept e [] t ss)
-          ≡ map told_at (cond b (s ∷ filter (λ (r : Placed Said). keeps e [] t r.it.path) ss) (filter (λ (r : Placed Said). keeps e [] t r.it.path) ss))
+          ≡ map told_at (cond b (s ∷ filter (λ (r : Placed Said). keeps e [] t r.it.path) ss) (filter (λ
+          (r : Placed Said). keeps e [] t r.it.path) ss))
       outside true = refl
       outside false = refl
 
@@ -83,12 +86,14 @@ top_called : (lines : List Line) → Stand lines → (a : Act) → In a (acts li
     was_called (committings lines) a.id ≡ true
 top_called lines st a there top holds = by (committed lines) st.ended holds
   where
-    by : (es : List (Placed ℕ)) → AllByRecursion (λ (e : Placed ℕ). IsEnded (acts lines) (committings lines) e.it) es → has_end es a.id ≡ true →
+    by : (es : List (Placed ℕ)) → AllByRecursion (λ (e : Placed ℕ). IsEnded (acts lines) (committings lines) e.it) es →
+        has_end es a.id ≡ true →
         was_called (committings lines) a.id ≡ true
     by [] all never = absurd (true≢false (sym never))
     by (e ∷ es) all yes_it = at (e.it == a.id) refl yes_it (λ more. by es all.1 more) all.0
       where
-        at : (b : Bool) → (e.it == a.id) ≡ b → (b || has_end es a.id) ≡ true → (has_end es a.id ≡ true → was_called (committings lines) a.id ≡ true) →
+        at : (b : Bool) → (e.it == a.id) ≡ b → (b || has_end es a.id) ≡ true → (has_end es a.id ≡ true →
+            was_called (committings lines) a.id ≡ true) →
             IsEnded (acts lines) (committings lines) e.it → was_called (committings lines) a.id ≡ true
         at true same more ih (x, in_it, is, was) =
             let number : e.it ≡ a.id = eqb-true e.it a.id same in

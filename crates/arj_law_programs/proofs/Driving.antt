@@ -25,7 +25,7 @@ use Rattle.arj_law_programs.proofs.Hearing.{count_more, next_count}
 use Rattle.arj_law_programs.proofs.Numbers.{hears_number}
 use Rattle.arj_law_programs.proofs.Tracking.{Asks, Counted, Holds}
 use Rattle.arj_law_programs.proofs.Views.{AreCalled, View, sound_still, view}
-use Rattle.arj_law_programs.specs.Fits.{AreFit, FirstFits, LaterFit, LaterFits, bodies_of}
+use Rattle.arj_law_programs.proofs.Fits.{AreFit, FirstFits, LaterFit, LaterFits, bodies_of}
 
 -- ---- lists of programs
 
@@ -103,7 +103,8 @@ module _ (past : Past) (e : Event) (by : Option ℕ) (st : Stand past.lines) (na
   accepts : (own : Bool) (k : ℕ) (c : Client) → Mid (view past.lines) asks_old (count past.lines) (ask_of e) own k c →
       Holds (view past.lines) asks_new (count past.lines) c
   accepts own k c m =
-      subst (λ asks. Holds (view past.lines) asks (count past.lines) c) (asks_more past.accepted (asked_of past e)) (m.accepted e (asked_of past e) refl refl)
+      subst (λ asks. Holds (view past.lines) asks (count past.lines) c) (asks_more past.accepted (asked_of past e)) (m.accepted e
+      (asked_of past e) refl refl)
 
   -- a refusal stands alone of an event's lines, or lines outside of events stand behind
   refusal_stands : (k : ℕ) → Stand (past.lines ++ record { event = past.count + 1; body = body.Refused k } ∷ [])
@@ -122,7 +123,8 @@ module _ (past : Past) (e : Event) (by : Option ℕ) (st : Stand past.lines) (na
 
   -- the state behind the event
   abbrev Behind : List Body → Client → Type 0
-  Behind bs c = Holds (view (let z = next past e bs in z.lines)) (asks_by (let z = next past e bs in z.accepted)) (count (let z = next past e bs in z.lines)) c
+  Behind bs c = Holds (view (let z = next past e bs in z.lines)) (asks_by (let z = next past e bs in z.accepted)) (count
+      (let z = next past e bs in z.lines)) c
 
   one_heard : (own : Bool) (k : ℕ) (c : Client) (bs : List Body) → (ask_of e ≡ Quiesces → own ≡ false) → AreFit past e bs →
       Mid (view past.lines) asks_old (count past.lines) (ask_of e) own k c →
@@ -140,7 +142,8 @@ module _ (past : Past) (e : Event) (by : Option ℕ) (st : Stand past.lines) (na
           Stand (let z = next past e (b ∷ bs) in z.lines) × Behind (b ∷ bs) (heard_all own (b ∷ bs) c)
       goes not both = (
         both.0,
-        subst (λ r. Holds (view (past.lines ++ (x ∷ block (past.count + 1) bs))) (asks_by (cond r past.accepted (past.accepted ++ asked_of past e ∷ [])))
+        subst (λ r. Holds (view (past.lines ++ (x ∷ block (past.count + 1) bs))) (asks_by (cond r past.accepted
+            (past.accepted ++ asked_of past e ∷ [])))
             (count (past.lines ++ (x ∷ block (past.count + 1) bs))) (heard_all own (b ∷ bs) c)) (sym not) both.1,
       )
 
@@ -152,7 +155,8 @@ module _ (past : Past) (e : Event) (by : Option ℕ) (st : Stand past.lines) (na
 
       -- it is refused
       refused : (j : ℕ) → (ds : List Body) → (own ≡ false) ⊎ (ds ≡ []) → AllByRecursion (λ (d : Body). is_ending d ≡ true) ds →
-          Stand (let z = next past e (body.Refused j ∷ ds) in z.lines) × Behind (body.Refused j ∷ ds) (heard_all own (body.Refused j ∷ ds) c)
+          Stand (let z = next past e (body.Refused j ∷ ds) in z.lines)
+          × Behind (body.Refused j ∷ ds) (heard_all own (body.Refused j ∷ ds) c)
       refused j [] free all = (refusal_stands j, refusal_holds j asks_old (if own then refused_at c.phase c else c) m.refused)
       refused j (d ∷ ds) (inr never) all = absurd (cc never)
       refused j (d ∷ ds) (inl other) all =
@@ -166,7 +170,8 @@ module _ (past : Past) (e : Event) (by : Option ℕ) (st : Stand past.lines) (na
                 (sym other) (refusal_holds j asks_new c (accepts own k c m)),
           ))
 
-      cases : ((j : ℕ) × (b ≡ body.Refused j) × ((bs ≡ []) ⊎ ((ask_of e ≡ Quiesces) × AllByRecursion (λ (d : Body). is_ending d ≡ true) bs)))
+      cases : ((j : ℕ) × (b ≡ body.Refused j) × ((bs ≡ []) ⊎ ((ask_of e ≡ Quiesces)
+          × AllByRecursion (λ (d : Body). is_ending d ≡ true) bs)))
           ⊎ ((is_refused (b ∷ bs) ≡ false) × FirstFits past e b × LaterFit past e (past.lines ++ block (past.count + 1) (b ∷ [])) bs) →
           Stand (let z = next past e (b ∷ bs) in z.lines) × Behind (b ∷ bs) (heard_all own (b ∷ bs) c)
       cases (inr (not, first, later)) =
@@ -181,7 +186,8 @@ module _ (past : Past) (e : Event) (by : Option ℕ) (st : Stand past.lines) (na
   -- all of them hear it
   pub all_heard : (bs : List Body) → (ask_of e ≡ Quiesces → by ≡ None) → AreFit past e bs → (at : ℕ) (cs : List Client) →
       AllMid (view past.lines) asks_old (count past.lines) (ask_of e) by at cs →
-      AllHold (view (let z = next past e bs in z.lines)) (asks_by (let z = next past e bs in z.accepted)) (count (let z = next past e bs in z.lines))
+      AllHold (view (let z = next past e bs in z.lines)) (asks_by (let z = next past e bs in z.accepted)) (count
+      (let z = next past e bs in z.lines))
       (at + 1) (hear_lines by at bs cs)
   all_heard bs quiet fit at [] mids = tt
   all_heard bs quiet fit at (c ∷ cs) mids =

@@ -19,7 +19,8 @@ use Rattle.arj_law_programs.proofs.Labels.{IsOf}
 use Rattle.arj_law_programs.proofs.Acts.{In, IsGood, act_of_path, found_in, label_itself, path_alone, same_act, top_or_nested, all_in}
 use Rattle.arj_law_programs.proofs.Hearing.{either, holds_so, stays, waits_label}
 use Rattle.arj_law_programs.proofs.Keeping.{Mark, and_both, both_ways, chain_of, or_second, top_there}
-use Rattle.arj_law_programs.proofs.Tracking.{Asks, Counted, Holds, IsOpen, Opens, Tracks, begun_elsewhere, end_in, ended_elsewhere, inner_label}
+use Rattle.arj_law_programs.proofs.Tracking.{Asks, Counted, Holds, IsOpen, Opens, Tracks, begun_elsewhere, end_in, ended_elsewhere}
+use Rattle.arj_law_programs.proofs.Tracking.{inner_label}
 use Rattle.arj_law_programs.proofs.Tracking.{inner_same, mark_of}
 use Rattle.arj_law_programs.proofs.Turning.{IsApart, has_more, join_blocks, join_top, open_first, open_joined, open_nested}
 use Rattle.arj_law_programs.proofs.Views.{Sound, View, act_begun, next_view, nothing_read}
@@ -123,7 +124,8 @@ module _ (n : ℕ) (v : View) (sound : Sound v) (asks : Asks) (ans : Counted) (c
   unmoved : IsApart v.acts c.number a.id → Holds v asks ans c → Holds (record v { ends = v.ends ++ end_at n a ∷ [] }) asks ans c
   unmoved apart h =
       stays v (record v { ends = v.ends ++ end_at n a ∷ [] }) asks ans ans c
-      (ended_elsewhere v sound (end_at n a) asks ans ans c.phase c.number c.asked (mark_of c.top) (map mark_of c.blocks) apart (λ m. omega arith)) h
+      (ended_elsewhere v sound (end_at n a) asks ans ans c.phase c.number c.asked (mark_of c.top) (map mark_of c.blocks) apart
+      (λ m. omega arith)) h
 
   nothing_longer : (t : Act) (xs : List Act) (x : Act) → a ∷ [] ≡ t ∷ (xs ++ x ∷ []) → ⊥
   nothing_longer t [] x e = cc
@@ -148,7 +150,8 @@ module _ (n : ℕ) (v : View) (sound : Sound v) (asks : Asks) (ans : Counted) (c
         Tracks v asks ans phase.Committing c.number c.asked (mark_of c.top) (map mark_of c.blocks) →
         Holds (record v { ends = v.ends ++ end_at n a ∷ [] }) asks ans (commits_at bs c)
     ends_so [] is same t =
-        let more = ended_elsewhere v sound (end_at n a) asks ans ans phase.Committing c.number c.asked (mark_of c.top) (map mark_of c.blocks)
+        let more = ended_elsewhere v sound (end_at n a) asks ans ans phase.Committing c.number c.asked (mark_of c.top)
+        (map mark_of c.blocks)
         no_nested (λ m. omega arith) t in
         record {
           label = t.label;
@@ -159,7 +162,8 @@ module _ (n : ℕ) (v : View) (sound : Sound v) (asks : Asks) (ans : Counted) (c
           done = (
             ap (map mark_of) is,
             ap (end_in (v.ends ++ end_at n a ∷ []))
-                (ap (option_map (λ (x : Act). x.id)) (ap (act_in v.acts) (ap (λ bs. let m = inner_of c.top bs in m.label) (sym is) ∙ same) ∙ found))
+                (ap (option_map (λ (x : Act). x.id)) (ap (act_in v.acts) (ap (λ bs. let m = inner_of c.top bs in m.label) (sym is)
+                ∙ same) ∙ found))
                 ∙ has_more v.ends (end_at n a) a.id ∙ or_second (has_end v.ends a.id) (a.id == a.id) (eq-eqb a.id a.id refl),
           );
         }
@@ -202,8 +206,10 @@ module _ (n : ℕ) (v : View) (sound : Sound v) (asks : Asks) (ans : Counted) (c
     joins_so : (b : Level) (bs : List Level) → IsOf c.number (let t = c.top in t.label) →
         AllByRecursion (λ (m : Mark). IsOf c.number m.label) (map mark_of bs) →
         ((k : List ℕ) → IsOf c.number k → length (asks k) ≤ ans k + 0) →
-        IsOpen (record v { ends = v.ends ++ end_at n a ∷ [] }) (join_top (mark_of b) (mark_of c.top) (map mark_of bs)) (join_blocks (mark_of b) (map mark_of bs)) →
-        Holds (record v { ends = v.ends ++ end_at n a ∷ [] }) asks ans (inside_at bs (joins b) (record c { blocks = bs; phase = phase.Ready }))
+        IsOpen (record v { ends = v.ends ++ end_at n a ∷ [] }) (join_top (mark_of b) (mark_of c.top) (map mark_of bs)) (join_blocks
+        (mark_of b) (map mark_of bs)) →
+        Holds (record v { ends = v.ends ++ end_at n a ∷ [] }) asks ans (inside_at bs (joins b)
+        (record c { blocks = bs; phase = phase.Ready }))
     joins_so b [] of all slack op = record {
       label = of;
       labels = tt;
@@ -235,12 +241,14 @@ module _ (n : ℕ) (v : View) (sound : Sound v) (asks : Asks) (ans : Counted) (c
             let one : t0 ≡ a = cc in
             let no_way : kind.Top ≡ kind.Nested = sym op.kind ∙ ap (λ (x : Act). x.kind) one ∙ nested in absurd (cc no_way)
     commits_so (b ∷ bs) is t =
-        joins_so b bs t.label (let all = subst (λ ls. AllByRecursion (λ (m : Mark). IsOf c.number m.label) (map mark_of ls)) is t.labels in all.1)
+        joins_so b bs t.label (let all = subst (λ ls. AllByRecursion (λ (m : Mark). IsOf c.number m.label)
+        (map mark_of ls)) is t.labels in all.1)
         t.slack (joined (subst (λ ls. IsOpen v (mark_of c.top) (map mark_of ls)) is t.opens)
         (ap (λ ls. let m = inner_of c.top ls in m.label) (sym is) ∙ same))
       where
         joined : IsOpen v (mark_of c.top) (mark_of b ∷ map mark_of bs) → b.label ≡ name l →
-            IsOpen (record v { ends = v.ends ++ end_at n a ∷ [] }) (join_top (mark_of b) (mark_of c.top) (map mark_of bs)) (join_blocks (mark_of b) (map mark_of bs))
+            IsOpen (record v { ends = v.ends ++ end_at n a ∷ [] }) (join_top (mark_of b) (mark_of c.top) (map mark_of bs)) (join_blocks
+            (mark_of b) (map mark_of bs))
         joined (t0, [], op) e = absurd op.stack
         joined (t0, x ∷ below, op) e =
             let both : Some x ≡ Some a =

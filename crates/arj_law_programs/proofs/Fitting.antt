@@ -27,7 +27,7 @@ use Rattle.arj_progrun.specs.Schedule.{Given}
 use Rattle.arj_progrun.specs.Stepped.{AreNumbered}
 use Rattle.arj_law_programs.proofs.Along.{Tolerant, TraceHas, block_of, lines_of}
 use Rattle.arj_law_programs.proofs.Acts.{all_append}
-use Rattle.arj_law_programs.specs.Fits.{AreFit, FitAlong, LaterFit, LaterFits, bodies_of}
+use Rattle.arj_law_programs.proofs.Fits.{AreFit, FitAlong, LaterFit, LaterFits, bodies_of}
 
 -- ---- lines that fit anywhere
 
@@ -178,7 +178,8 @@ none_hold [] e = tt
 none_hold (c ∷ cs) e = by c.1 refl e (λ rest. none_hold cs rest)
   where
     by : (b : Bool) → c.1 ≡ b → cond b (Some c.0) (first_cause cs) ≡ None →
-        (first_cause cs ≡ None → AllByRecursion (λ (d : ℕ × Bool). d.1 ≡ false) cs) → (c.1 ≡ false) × AllByRecursion (λ (d : ℕ × Bool). d.1 ≡ false) cs
+        (first_cause cs ≡ None → AllByRecursion (λ (d : ℕ × Bool). d.1 ≡ false) cs) →
+        (c.1 ≡ false) × AllByRecursion (λ (d : ℕ × Bool). d.1 ≡ false) cs
     by true is never ih = absurd (cc never)
     by false is rest ih = (is, ih rest)
 
@@ -252,7 +253,8 @@ module _ (hd : Header) (past : Past) where
   own_fit (event.Show x) own none is = own_plain (event.Show x) own (subst ArePlain (sym is) tt)
 
   -- with lines outside of events behind
-  accepted_fit : (e : Event) (bs tail : List Body) → refusal hd past e ≡ None → Accepted hd past e bs → ArePlain tail → AreFit past e (bs ++ tail)
+  accepted_fit : (e : Event) (bs tail : List Body) → refusal hd past e ≡ None → Accepted hd past e bs → ArePlain tail →
+      AreFit past e (bs ++ tail)
   accepted_fit e bs tail none a plain =
       subst (AreFit past e) (sym (ap (λ cs. cs ++ tail) a.parts ∙ append_assoc a.own (a.others ++ a.last) tail
       ∙ ap (λ cs. a.own ++ cs) (append_assoc a.others a.last tail)))

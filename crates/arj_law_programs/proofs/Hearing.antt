@@ -1,5 +1,6 @@
 -- What a program hears keeps what holds of it.
-use Rattle.std.proofs.Common.{◌≡◌, ◌∙◌, ◌≤◌, ◌⊎◌, inl, inr, ℕ, ◌+◌, List, [], ◌∷◌, ◌++◌, length, map, refl, ap, sym, subst, arith, true, false}
+use Rattle.std.proofs.Common.{◌≡◌, ◌∙◌, ◌≤◌, ◌⊎◌, inl, inr, ℕ, ◌+◌, List, [], ◌∷◌, ◌++◌, length, map, refl, ap, sym, subst, arith, true}
+use Rattle.std.proofs.Common.{false}
 use Rattle.std.proofs.Common.{Bool, Option, Some, ◌&&◌, ◌||◌, ◌==◌, ◌-◌, true≢false, if◌then◌else◌}
 use Rattle.std.specs.List.{AllByRecursion}
 use Rattle.std.specs.Str.{bytes_eq}
@@ -79,7 +80,8 @@ backs v asks ans bns i o top bs slack t =
     record { label = t.label; labels = t.labels; opens = t.opens; slack = slack; calls = tt; done = tt }
 
 pub denied : (v : View) (asks : Asks) (ans : Counted) (c : Client) (l : Label) → Holds v asks ans c →
-    Holds v asks (λ k. ans k + (if bytes_eq (name l) k then 1 else 0)) (if waits phase.Calling (name l) c then stands phase.Backing c else c)
+    Holds v asks (λ k. ans k + (if bytes_eq (name l) k then 1 else 0)) (if waits phase.Calling
+    (name l) c then stands phase.Backing c else c)
 denied v asks ans c l h =
     either (Holds v asks (λ k. ans k + (if bytes_eq (name l) k then 1 else 0))) (waits phase.Calling (name l) c) (stands phase.Backing c) c
     (λ e. let t = holds_so v asks ans c phase.Calling (waits_so phase.Calling (name l) c e) h in
@@ -87,7 +89,8 @@ denied v asks ans c l h =
     (ends_call asks ans c.number (let m = inner_mark (mark_of c.top) (map mark_of c.blocks) in m.label) (name l)
     (inner_same c.top c.blocks ∙ waits_label phase.Calling (name l) c e) t.slack) t)
     (λ e. stays v v asks ans (λ k. ans k + (if bytes_eq (name l) k then 1 else 0)) c
-    (tracks_on v v asks ans (λ k. ans k + (if bytes_eq (name l) k then 1 else 0)) c.phase c.number c.asked (mark_of c.top) (map mark_of c.blocks)
+    (tracks_on v v asks ans (λ k. ans k + (if bytes_eq (name l) k then 1 else 0)) c.phase c.number c.asked (mark_of c.top)
+    (map mark_of c.blocks)
     (λ of cs all op. op) (λ op holds. holds) (λ k. omega arith)) h)
 
 -- ---- an abort
@@ -106,7 +109,8 @@ lost_top v asks ans c of slack none =
 
 lost : (v : View) (asks : Asks) (ans : Counted) (c : Client) (bs : List Level) → c.blocks ≡ bs →
     IsOf c.number (let t = c.top in t.label) → AllByRecursion (λ (b : Mark). IsOf c.number b.label) (map mark_of bs) →
-    IsOpen v (mark_of c.top) (map mark_of bs) → ((l : List ℕ) → IsOf c.number l → length (asks l) ≤ ans l + 0) → Holds v asks ans (loses_at bs c)
+    IsOpen v (mark_of c.top) (map mark_of bs) → ((l : List ℕ) → IsOf c.number l → length (asks l) ≤ ans l + 0) →
+    Holds v asks ans (loses_at bs c)
 lost v asks ans c [] is of all open_now slack = lost_top v asks ans c of slack is
 lost v asks ans c (b ∷ bs) is of all open_now slack =
     either (Holds v asks ans) (b.left == 0) (record c { blocks = bs; phase = phase.Backing }) (record c {
@@ -116,7 +120,8 @@ lost v asks ans c (b ∷ bs) is of all open_now slack =
     (λ e. record { label = of; labels = all.1; opens = outer open_now; slack = slack; calls = tt; done = tt })
     (λ e. record { label = of; labels = all; opens = (refl, outer open_now); slack = slack; calls = tt; done = tt })
   where
-    popped : (t : Act) (below : List Act) → Open v (mark_of c.top) t below (mark_of b ∷ map mark_of bs) → IsOpen v (mark_of c.top) (map mark_of bs)
+    popped : (t : Act) (below : List Act) → Open v (mark_of c.top) t below (mark_of b ∷ map mark_of bs) →
+        IsOpen v (mark_of c.top) (map mark_of bs)
     popped t [] op = absurd op.stack
     popped t (a ∷ below) op = (t, below, open_popped v (mark_of c.top) t a below (mark_of b) (map mark_of bs) op)
 
@@ -165,7 +170,8 @@ module _ (n : ℕ) (v : View) (sound : Sound v) (asks : Asks) (ans : Counted) (c
       (bs : List Level) → c.blocks ≡ bs → Holds w asks bns (inside_at bs (taken st answer) (record c { phase = phase.Ready; blocks = bs }))
   mine st same label t bs is =
       at bs (subst (λ ls. AllByRecursion (λ (b : Mark). IsOf c.number b.label) (map mark_of ls)) is t.labels)
-      (subst (λ ls. IsOpen v (mark_of c.top) (map mark_of ls)) is t.opens) (subst (λ ls. (let m = inner_of c.top ls in m.label) ≡ name l) is label)
+      (subst (λ ls. IsOpen v (mark_of c.top) (map mark_of ls)) is t.opens) (subst (λ ls.
+      (let m = inner_of c.top ls in m.label) ≡ name l) is label)
     where
       slack : (k : List ℕ) → IsOf c.number k → length (asks k) ≤ bns k + 0
       slack = ends_call asks ans c.number (let m = inner_mark (mark_of c.top) (map mark_of c.blocks) in m.label) (name l)
@@ -178,10 +184,12 @@ module _ (n : ℕ) (v : View) (sound : Sound v) (asks : Asks) (ans : Counted) (c
         below,
         open_own_call v s t0 (mark_of c.top) below (map mark_of ls)
             (let own = own_top v sound c.number t0 (mark_of c.top) below (map mark_of ls) t.label op0.stack in let o = own.0 in o.plain)
-            (ap (path v.acts) (sym here ∙ sym (inner_same c.top ls)) ∙ stack_at v.acts t0 (mark_of c.top) below (map mark_of ls) op0.stack) op0,
+            (ap (path v.acts) (sym here ∙ sym (inner_same c.top ls))
+            ∙ stack_at v.acts t0 (mark_of c.top) below (map mark_of ls) op0.stack) op0,
       )
 
-      at : (ls : List Level) → AllByRecursion (λ (b : Mark). IsOf c.number b.label) (map mark_of ls) → IsOpen v (mark_of c.top) (map mark_of ls) →
+      at : (ls : List Level) → AllByRecursion (λ (b : Mark). IsOf c.number b.label) (map mark_of ls) →
+          IsOpen v (mark_of c.top) (map mark_of ls) →
           (let m = inner_of c.top ls in m.label) ≡ name l → Holds w asks bns (inside_at ls (taken st answer) (record c {
             phase = phase.Ready;
             blocks = ls;
@@ -197,20 +205,23 @@ module _ (n : ℕ) (v : View) (sound : Sound v) (asks : Asks) (ans : Counted) (c
       at (b ∷ bs) all op0 here = record {
         label = t.label;
         labels = all;
-        opens = subst (λ m. IsOpen w (mark_of c.top) (m ∷ map mark_of bs)) (mark_taken st answer b (told_at s) same) (opened (b ∷ bs) here op0);
+        opens = subst (λ m. IsOpen w (mark_of c.top) (m ∷ map mark_of bs)) (mark_taken st answer b (told_at s) same) (opened
+            (b ∷ bs) here op0);
         slack = slack;
         calls = tt;
         done = tt;
       }
 
-  answered_so : (let m = inner c in m.label) ≡ name l → Tracks v asks ans phase.Calling c.number c.asked (mark_of c.top) (map mark_of c.blocks) →
+  answered_so : (let m = inner c in m.label) ≡ name l →
+      Tracks v asks ans phase.Calling c.number c.asked (mark_of c.top) (map mark_of c.blocks) →
       Holds w asks bns (answered answer c.asked c)
   answered_so label t =
       let k = t.calls in
       subst (λ o. Holds w asks bns (answered answer o c)) (sym k.2)
       (mine k.0 (said_same k.0 answer ∙ told k.0 k.1 k.3 k.4) label t c.blocks refl)
     where
-      told : (st : Statement) (a : Asked) → last_asked (asks (let m = inner_mark (mark_of c.top) (map mark_of c.blocks) in m.label)) ≡ Some a →
+      told : (st : Statement) (a : Asked) →
+          last_asked (asks (let m = inner_mark (mark_of c.top) (map mark_of c.blocks) in m.label)) ≡ Some a →
           AsksFor (said_by st []) (let m = inner_mark (mark_of c.top) (map mark_of c.blocks) in m.label) a.event →
           record { x = (let r = said_by st [] in r.x); op = (let r = said_by st [] in r.op); answer = answer } ≡ told_at s
       told st a is asked =

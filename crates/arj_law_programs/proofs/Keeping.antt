@@ -277,7 +277,8 @@ stack_more us u t top (a ∷ below) [] new s = absurd s
 
 -- ---- another action begins
 
-pub open_more : (v : View) (u t : Act) (top : Mark) (below : List Act) (bs : List Mark) → act_in v.acts u.label ≡ None → Open v top t below bs →
+pub open_more : (v : View) (u t : Act) (top : Mark) (below : List Act) (bs : List Mark) → act_in v.acts u.label ≡ None →
+    Open v top t below bs →
     Open (record v { acts = u ∷ v.acts }) top t below bs
 open_more v u t top below bs new o = record {
   kind = o.kind;
@@ -290,13 +291,18 @@ open_more v u t top below bs new o = record {
 
 -- ---- a call of another program
 
-nests_other : (ss : List (Placed Said)) (s : Placed Said) (t : ℕ) (below : List Act) → is_top t (top_in s.it.path) ≡ false → Nests ss t below →
+nests_other : (ss : List (Placed Said)) (s : Placed Said) (t : ℕ) (below : List Act) → is_top t (top_in s.it.path) ≡ false →
+    Nests ss t below →
     Nests (ss ++ s ∷ []) t below
 nests_other ss s t [] fails n = tt
 nests_other ss s t (a ∷ []) fails n = (tt, tt)
 nests_other ss s t (a ∷ p ∷ ps) fails n = (
   all_append (λ (r : Placed Said). is_top t (top_in r.it.path) ≡ true → among (ids (chain_in r.it.path)) a.id ≡ true →
-      among (ids (chain_in r.it.path)) p.id ≡ true) ss (s ∷ []) n.0 ((λ holds there. both_ways (is_top t (top_in s.it.path)) holds fails), tt),
+      among (ids (chain_in r.it.path)) p.id ≡ true) ss (s ∷ []) n.0 (
+        (λ holds there. both_ways (is_top t
+            (top_in s.it.path)) holds fails),
+        tt,
+      ),
   nests_other ss s t (p ∷ ps) fails n.1,
 )
 
@@ -339,10 +345,12 @@ nests_own ss s t (a ∷ p ∷ ps) all n = (
 )
 
 module _ (e : List (Placed ℕ)) (ss : List (Placed Said)) (s : Placed Said) (t : Act) (plain : is_serial t.kind ≡ false) where
-  kept_own : (below : List Act) → s.it.path ≡ t ∷ chain_of below → kept e (ids below) t.id (ss ++ s ∷ []) ≡ kept e (ids below) t.id ss ++ told_at s ∷ []
+  kept_own : (below : List Act) → s.it.path ≡ t ∷ chain_of below →
+      kept e (ids below) t.id (ss ++ s ∷ []) ≡ kept e (ids below) t.id ss ++ told_at s ∷ []
   kept_own below is =
       kept_with e (ids below) t.id ss s
-      (ap (keeps e (ids below) t.id) is ∙ keeps_here e (ids below) t (chain_of below) plain ∙ all_count e (ids below) below (among_these below))
+      (ap (keeps e (ids below) t.id) is ∙ keeps_here e (ids below) t (chain_of below) plain
+      ∙ all_count e (ids below) below (among_these below))
 
   kept_above : (a : Act) (below os : List Act) → s.it.path ≡ t ∷ (chain_of below ++ a ∷ []) → has_end e a.id ≡ false →
       among (ids os) a.id ≡ false → kept e (ids os) t.id (ss ++ s ∷ []) ≡ kept e (ids os) t.id ss

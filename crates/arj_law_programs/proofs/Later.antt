@@ -1,6 +1,8 @@
 -- The lines of an event, one after another, as a program hears them.
-use Rattle.std.proofs.Common.{◌≡◌, ◌∙◌, ◌<◌, ◌≤◌, ◌⊎◌, inl, inr, ℕ, ◌+◌, List, [], ◌∷◌, ◌++◌, length, map, refl, ap, sym, subst, true, false}
-use Rattle.std.proofs.Common.{Bool, Option, Some, None, cond, ◌&&◌, ◌||◌, ◌==◌, append-nil, eqb-true, true≢false, if◌then◌else◌, not, is_some}
+use Rattle.std.proofs.Common.{◌≡◌, ◌∙◌, ◌<◌, ◌≤◌, ◌⊎◌, inl, inr, ℕ, ◌+◌, List, [], ◌∷◌, ◌++◌, length, map, refl, ap, sym, subst, true}
+use Rattle.std.proofs.Common.{false}
+use Rattle.std.proofs.Common.{Bool, Option, Some, None, cond, ◌&&◌, ◌||◌, ◌==◌, append-nil, eqb-true, true≢false, if◌then◌else◌, not}
+use Rattle.std.proofs.Common.{is_some}
 use Rattle.std.specs.Prelude.{⊤}
 use Rattle.std.specs.List.{AllByRecursion}
 use Rattle.std.specs.Option.{option_map}
@@ -23,18 +25,21 @@ use Rattle.arj_model.specs.Own.{commit_line}
 use Rattle.arj_model.specs.Past.{Past, asked_of, block}
 use Rattle.arj_model.specs.Refusals.{answers_to, asks_by, holds_of, is_answer_to, is_committing, is_serializing, was_called}
 use Rattle.arj_start.specs.Kinds.{is_serial}
-use Rattle.arj_progrun.specs.Client.{Ask, Begins, BeginsIn, Calls, Client, Commits, Level, Other, halted, hears, inner, inner_of, is_open, is_phase, stands}
+use Rattle.arj_progrun.specs.Client.{Ask, Begins, BeginsIn, Calls, Client, Commits, Level, Other, halted, hears, inner, inner_of, is_open}
+use Rattle.arj_progrun.specs.Client.{is_phase, stands}
 use Rattle.arj_progrun.specs.Events.{ask_of}
 use Rattle.arj_progrun.specs.declared.phase.Phase.TheVariants as phase
 use Rattle.arj_law_programs.proofs.Labels.{IsOf}
-use Rattle.arj_law_programs.proofs.Acts.{In, IsGood, all_append, all_in, all_map, found_in, id_low, not_serial, path_alone, same_act, top_or_nested}
+use Rattle.arj_law_programs.proofs.Acts.{In, IsGood, all_append, all_in, all_map, found_in, id_low, not_serial, path_alone, same_act}
+use Rattle.arj_law_programs.proofs.Acts.{top_or_nested}
 use Rattle.arj_law_programs.proofs.Ending.{hears_begun_elsewhere, hears_begun_nested, hears_begun_top, hears_committed_elsewhere}
 use Rattle.arj_law_programs.proofs.Ending.{hears_committed_own, hears_committed_top}
 use Rattle.arj_law_programs.proofs.Hearing.{count_more, denied, either, hears_aborted, hears_answer, next_count, stays}
 use Rattle.arj_law_programs.proofs.Tracking.{AnswersCall, Asks, Counted, Holds, answers_call, tracks_on, mark_of}
-use Rattle.arj_law_programs.proofs.Views.{AreCalled, IsCalled, Sound, View, act_begun, all_put, called_begun, next_view, nothing_read, read_path}
+use Rattle.arj_law_programs.proofs.Views.{AreCalled, IsCalled, Sound, View, act_begun, all_put, called_begun, next_view, nothing_read}
+use Rattle.arj_law_programs.proofs.Views.{read_path}
 use Rattle.arj_law_programs.proofs.Views.{sound_answered, sound_begun, sound_ended, sound_still, view, view_more}
-use Rattle.arj_law_programs.specs.Fits.{FirstFits, IsBegunBy, IsOwnCommit, LaterFit, LaterFits}
+use Rattle.arj_law_programs.proofs.Fits.{FirstFits, IsBegunBy, IsOwnCommit, LaterFit, LaterFits}
 
 -- ---- answers are counted
 
@@ -88,7 +93,8 @@ pub record Stand (lines : List Line) : Type 0 where
   pub ended : AllByRecursion (λ (e : Placed ℕ). IsEnded (acts lines) (committings lines) e.it) (committed lines)
 
 -- whose commit was called is a top
-called_top : (lines : List Line) → Stand lines → (a : Act) → In a (acts lines) → was_called (committings lines) a.id ≡ true → a.kind ≡ kind.Top
+called_top : (lines : List Line) → Stand lines → (a : Act) → In a (acts lines) → was_called (committings lines) a.id ≡ true →
+    a.kind ≡ kind.Top
 called_top lines st a there holds = by (committings lines) st.called holds
   where
     by : (ms : List (Placed (List Act))) → AreCalled (acts lines) ms → was_called ms a.id ≡ true → a.kind ≡ kind.Top
@@ -139,19 +145,26 @@ ended_later : (past : Past) (e : Event) (lines : List Line) (b : Body) → Stand
     (committings lines ++ put (0 + length lines) (committing_of (acts lines) b) []) x.it)
     (committed lines ++ put (0 + length lines) (committed_of (acts lines) b) [])
 ended_later past e lines (body.Committed l) st fits =
-    all_put (λ (x : Placed ℕ). IsEnded (acts lines) (committings lines ++ []) x.it) (0 + length lines) (id_in (acts lines) (name l)) (committed lines)
+    all_put (λ (x : Placed ℕ). IsEnded (acts lines) (committings lines ++ []) x.it) (0 + length lines) (id_in (acts lines) (name l))
+    (committed lines)
     (ended_more (acts lines) (acts lines) (committings lines) [] (committed lines) (λ a there. there) st.ended) one
   where
     one : (i : ℕ) → id_in (acts lines) (name l) ≡ Some i → IsEnded (acts lines) (committings lines ++ []) i
     one i is =
         let c = committing_called lines (name l) fits in
         let same : Some (let a = c.0 in a.id) ≡ Some i = sym (λ j. option_map (λ (a : Act). a.id) (c.1 j)) ∙ is in
-        let at : (let a = c.0 in a.id) ≡ i = cc in
-        (c.0, (found_in (acts lines) (name l) c.0 c.1).0, at, λ top. was_more (committings lines) [] i (ap (was_called (committings lines)) (sym at) ∙ c.2))
+        let at : (let a = c.0 in a.id) ≡ i = cc in (
+          c.0,
+          (found_in (acts lines) (name l) c.0 c.1).0,
+          at,
+          λ top. was_more (committings lines) [] i (ap (was_called
+              (committings lines)) (sym at) ∙ c.2),
+        )
 ended_later past e lines (body.Began l k u p) st fits = absurd fits
 ended_later past e lines (body.Committing l) st fits = absurd fits
 ended_later past e lines (body.Refused c) st fits = absurd fits
-ended_later past e lines _ st fits = ended_still (acts lines) (acts lines) (committings lines) [] (committed lines) (λ a there. there) st.ended
+ended_later past e lines _ st fits = ended_still (acts lines) (acts lines) (committings lines) [] (committed lines)
+    (λ a there. there) st.ended
 
 pub later_facts : (past : Past) (e : Event) (lines : List Line) (b : Body) → Stand lines → LaterFits past e lines b →
     LaterFacts (view lines) (asks_by (past.accepted ++ asked_of past e ∷ [])) (count lines) b
@@ -165,10 +178,12 @@ later_facts past e lines _ st fits = tt
 
 -- ---- one line
 
-pub more_counted : (v : View) (asks : Asks) (ans bns : Counted) (c : Client) → ((l : List ℕ) → ans l ≤ bns l) → Holds v asks ans c → Holds v asks bns c
+pub more_counted : (v : View) (asks : Asks) (ans bns : Counted) (c : Client) → ((l : List ℕ) → ans l ≤ bns l) → Holds v asks ans c →
+    Holds v asks bns c
 more_counted v asks ans bns c h holds =
     stays v v asks ans bns c
-    (tracks_on v v asks ans bns c.phase c.number c.asked (mark_of c.top) (map mark_of c.blocks) (λ of cs all op. op) (λ op holds. holds) h) holds
+    (tracks_on v v asks ans bns c.phase c.number c.asked (mark_of c.top) (map mark_of c.blocks) (λ of cs all op. op)
+    (λ op holds. holds) h) holds
 
 pub unread : (v : View) (asks : Asks) (ans bns : Counted) (c d : Client) → ((l : List ℕ) → ans l ≤ bns l) → Holds v asks ans d →
     Holds (record { acts = v.acts; said = v.said ++ []; ends = v.ends ++ [] }) asks bns d
@@ -184,7 +199,8 @@ halts v asks ans c node h =
     over true = tt
     over false = tt
 
-pub hears_later : (n : ℕ) (v : View) → Sound v → (asks : Asks) (ans : Counted) (own : Bool) (c : Client) (b : Body) → LaterFacts v asks ans b →
+pub hears_later : (n : ℕ) (v : View) → Sound v → (asks : Asks) (ans : Counted) (own : Bool) (c : Client) (b : Body) →
+    LaterFacts v asks ans b →
     Holds v asks ans c → Holds (next_view n b v) asks (next_count b ans) (hears b own c)
 hears_later n v sound asks ans own c (body.Ok l x op answer) facts h =
     subst (λ w. Holds w asks (next_count (body.Ok l x op answer) ans) (hears (body.Ok l x op answer) own c))
@@ -198,17 +214,20 @@ hears_later n v sound asks ans own c (body.Committed l) facts h =
     more_counted (next_view n (body.Committed l) v) asks ans (next_count (body.Committed l) ans) (hears (body.Committed l) own c)
     (count_more (body.Committed l) ans) (hears_committed_top n v sound asks ans c l facts.0 facts.1 facts.2 h)
 hears_later n v sound asks ans own c (body.Conflict l holder mode m) facts h =
-    subst (λ w. Holds w asks (next_count (body.Conflict l holder mode m) ans) (hears (body.Conflict l holder mode m) own c)) (nothing_read v)
+    subst (λ w. Holds w asks (next_count (body.Conflict l holder mode m) ans) (hears (body.Conflict l holder mode m) own c))
+    (nothing_read v)
     (denied v asks ans c l h)
 hears_later n v sound asks ans own c (body.Lost l m) facts h =
     subst (λ w. Holds w asks (next_count (body.Lost l m) ans) (hears (body.Lost l m) own c)) (nothing_read v) (denied v asks ans c l h)
 hears_later n v sound asks ans own c (body.Changed l m d) facts h =
-    subst (λ w. Holds w asks (next_count (body.Changed l m d) ans) (hears (body.Changed l m d) own c)) (nothing_read v) (denied v asks ans c l h)
+    subst (λ w. Holds w asks (next_count (body.Changed l m d) ans) (hears (body.Changed l m d) own c)) (nothing_read v)
+    (denied v asks ans c l h)
 hears_later n v sound asks ans own c (body.Aborted l why) facts h =
     unread v asks ans (next_count (body.Aborted l why) ans) c (hears (body.Aborted l why) own c) (count_more (body.Aborted l why) ans)
     (hears_aborted v asks ans c (name l) h)
 hears_later n v sound asks ans own c (body.Halted m) facts h =
-    unread v asks ans (next_count (body.Halted m) ans) c (hears (body.Halted m) own c) (count_more (body.Halted m) ans) (halts v asks ans c m h)
+    unread v asks ans (next_count (body.Halted m) ans) c (hears (body.Halted m) own c) (count_more (body.Halted m) ans)
+    (halts v asks ans c m h)
 hears_later n v sound asks ans own c (body.Includes l x m) facts h =
     unread v asks ans (next_count (body.Includes l x m) ans) c c (count_more (body.Includes l x m) ans) h
 hears_later n v sound asks ans own c (body.Began l k u p) facts h = absurd facts
@@ -353,10 +372,12 @@ module _ (past : Past) (own : Bool) (c : Client) (st : Stand past.lines) where
   begins_first : (asks : Asks) (ask : Ask) (l : Label) (k : Kind) (u : Uid) (p : Option Label) → IsNamed ask → Role ask c →
       IsBegunBy ask past.lines l k u p → act_in (acts past.lines) (name l) ≡ None → Holds (view past.lines) asks (count past.lines) c →
       IsGood (act_begun (view past.lines) l k u p)
-      × Holds (next_view (0 + length past.lines) (body.Began l k u p) (view past.lines)) asks (count past.lines) (hears (body.Began l k u p) own c)
+      × Holds (next_view (0 + length past.lines) (body.Began l k u p) (view past.lines)) asks (count past.lines) (hears
+      (body.Began l k u p) own c)
   begins_first asks (Begins m node) l k u None named (inl has) by new h = (
     (let j = named.0 in (j, subst (IsOf j) (sym by.0) named.1, by.1)),
-    hears_begun_top (0 + length past.lines) (view past.lines) asks (count past.lines) c l k u None st.sound new has.0 has.1 (by.0 ∙ has.2) refl by.1 h,
+    hears_begun_top (0 + length past.lines) (view past.lines) asks (count past.lines) c l k u None st.sound new has.0 has.1 (by.0
+        ∙ has.2) refl by.1 h,
   )
   begins_first asks (Begins m node) l k u None named (inr not) by new h = (
     (let j = named.0 in (j, subst (IsOf j) (sym by.0) named.1, by.1)),
@@ -366,13 +387,30 @@ module _ (past : Past) (own : Bool) (c : Client) (st : Stand past.lines) where
   begins_first asks (BeginsIn m q) l k u (Some p) named (inl has) by new h =
       let nested : k ≡ kind.Nested = by.2 ∙ (λ i. cond (plain_kind (name p) i) kind.Constituent kind.Nested) in
       let b = has.1 in (
-        (let j = named.0 in (j, subst (IsOf j) (sym by.0) (let z = named.1 in z.0), (subst (IsOf j) (sym by.1) (let z = named.1 in z.1), nested))),
-        hears_begun_nested (0 + length past.lines) (view past.lines) asks (count past.lines) c l k u (Some p) st.sound new has.0 b.0 b.1 p b.2
+        (let j = named.0 in (
+          j,
+          subst (IsOf j) (sym by.0) (let z = named.1 in z.0),
+          (
+            subst (IsOf j) (sym by.1)
+                (let z = named.1 in z.1),
+            nested,
+          ),
+        )),
+        hears_begun_nested (0 + length past.lines) (view past.lines) asks (count past.lines) c l k u
+            (Some p) st.sound new has.0 b.0 b.1 p b.2
             (by.0 ∙ b.3) refl (by.1 ∙ b.4) nested h,
       )
   begins_first asks (BeginsIn m q) l k u (Some p) named (inr not) by new h =
       let nested : k ≡ kind.Nested = by.2 ∙ (λ i. cond (plain_kind (name p) i) kind.Constituent kind.Nested) in (
-        (let j = named.0 in (j, subst (IsOf j) (sym by.0) (let z = named.1 in z.0), (subst (IsOf j) (sym by.1) (let z = named.1 in z.1), nested))),
+        (let j = named.0 in (
+          j,
+          subst (IsOf j) (sym by.0) (let z = named.1 in z.0),
+          (
+            subst (IsOf j) (sym by.1)
+                (let z = named.1 in z.1),
+            nested,
+          ),
+        )),
         hears_begun_elsewhere (0 + length past.lines) (view past.lines) asks (count past.lines) c l k u (Some p) new
             (λ of. not (subst (IsOf c.number) by.0 of)) h,
       )
@@ -385,7 +423,8 @@ module _ (past : Past) (own : Bool) (c : Client) (st : Stand past.lines) where
   commits_first : (a : Act) (l : Label) → act_in (acts past.lines) (name l) ≡ Some a → commit_line a.kind l ≡ body.Committed l →
       a.kind ≡ kind.Nested
   commits_first a l found line =
-      by (top_or_nested a (all_in IsGood (acts past.lines) (let s = st.sound in s.good) a (let f = found_in (acts past.lines) (name l) a found in f.0)))
+      by (top_or_nested a (all_in IsGood (acts past.lines) (let s = st.sound in s.good) a (let f = found_in (acts past.lines)
+      (name l) a found in f.0)))
     where
       by : ((a.kind ≡ kind.Top) × (a.parent ≡ None)) ⊎ (a.kind ≡ kind.Nested) → a.kind ≡ kind.Nested
       by (inl (top, none)) =
@@ -395,7 +434,8 @@ module _ (past : Past) (own : Bool) (c : Client) (st : Stand past.lines) where
   calls_first : (a : Act) (l : Label) → act_in (acts past.lines) (name l) ≡ Some a → commit_line a.kind l ≡ body.Committing l →
       IsCalled (acts past.lines) (path (acts past.lines) (name l))
   calls_first a l found line =
-      by (top_or_nested a (all_in IsGood (acts past.lines) (let s = st.sound in s.good) a (let f = found_in (acts past.lines) (name l) a found in f.0)))
+      by (top_or_nested a (all_in IsGood (acts past.lines) (let s = st.sound in s.good) a (let f = found_in (acts past.lines)
+      (name l) a found in f.0)))
     where
       by : ((a.kind ≡ kind.Top) × (a.parent ≡ None)) ⊎ (a.kind ≡ kind.Nested) → IsCalled (acts past.lines) (path (acts past.lines) (name l))
       by (inl (top, none)) =
@@ -406,13 +446,16 @@ module _ (past : Past) (own : Bool) (c : Client) (st : Stand past.lines) where
   -- a commit of its own line
   done_first : (asks : Asks) (ask : Ask) (l : Label) (a : Act) → Role ask c → ask ≡ Commits (name l) →
       act_in (acts past.lines) (name l) ≡ Some a → a.kind ≡ kind.Nested → Holds (view past.lines) asks (count past.lines) c →
-      Holds (next_view (0 + length past.lines) (body.Committed l) (view past.lines)) asks (count past.lines) (hears (body.Committed l) own c)
+      Holds (next_view (0 + length past.lines) (body.Committed l) (view past.lines)) asks (count past.lines) (hears
+      (body.Committed l) own c)
   done_first asks ask l a role is found nested h = by (subst (λ q. Role q c) is role)
     where
       by : Role (Commits (name l)) c →
-          Holds (next_view (0 + length past.lines) (body.Committed l) (view past.lines)) asks (count past.lines) (hears (body.Committed l) own c)
+          Holds (next_view (0 + length past.lines) (body.Committed l) (view past.lines)) asks (count past.lines) (hears
+          (body.Committed l) own c)
       by (inl has) =
-          hears_committed_own (0 + length past.lines) (view past.lines) st.sound asks (count past.lines) c l a found nested has.0 (sym has.1) h
+          hears_committed_own (0 + length past.lines) (view past.lines) st.sound asks (count past.lines) c l a found nested has.0
+          (sym has.1) h
       by (inr not) =
           hears_committed_elsewhere (0 + length past.lines) (view past.lines) st.sound asks (count past.lines) c l a found not h
 
@@ -421,14 +464,16 @@ module _ (past : Past) (own : Bool) (c : Client) (st : Stand past.lines) where
     asks_now = asks_by (past.accepted ++ asked_of past e ∷ [])
 
     abbrev First : Body → Type 0
-    First b = Both (asks_by (past.accepted ++ asked_of past e ∷ [])) (past.lines ++ record { event = past.count + 1; body = b } ∷ []) (hears b own c)
+    First b = Both (asks_by (past.accepted ++ asked_of past e ∷ [])) (past.lines ++ record { event = past.count + 1; body = b } ∷ [])
+        (hears b own c)
 
     later_first : (b : Body) → LaterFits past e past.lines b → Holds (view past.lines) asks_now (count past.lines) c → First b
     later_first b fits h =
         let x : Line = record { event = past.count + 1; body = b } in
         let facts = later_facts past e past.lines b st fits in (
           stand_next past.lines x (sound_later (0 + length past.lines) (view past.lines) asks_now (count past.lines) b facts st.sound)
-              (called_later (0 + length past.lines) (view past.lines) asks_now (count past.lines) b facts (committings past.lines) st.called)
+              (called_later (0 + length past.lines) (view past.lines) asks_now (count past.lines) b facts
+              (committings past.lines) st.called)
               (ended_later past e past.lines b st fits),
           holds_next past.lines x asks_now (hears b own c)
               (hears_later (0 + length past.lines) (view past.lines) st.sound asks_now (count past.lines) own c b facts h),
@@ -444,15 +489,18 @@ module _ (past : Past) (own : Bool) (c : Client) (st : Stand past.lines) where
               (subst (AreCalled (acts past.lines)) (sym (append-nil (committings past.lines))) st.called)
               (all_put (λ (y : Placed ℕ). IsEnded (acts past.lines) (committings past.lines ++ []) y.it) (0 + length past.lines)
               (id_in (acts past.lines) (name l)) (committed past.lines)
-              (ended_more (acts past.lines) (acts past.lines) (committings past.lines) [] (committed past.lines) (λ z there. there) st.ended)
+              (ended_more (acts past.lines) (acts past.lines) (committings past.lines) [] (committed past.lines)
+              (λ z there. there) st.ended)
               (own_end nested)),
           holds_next past.lines x asks_now (hears (body.Committed l) own c)
               (more_counted (next_view (0 + length past.lines) (body.Committed l) (view past.lines)) asks_now (count past.lines)
-              (next_count (body.Committed l) (count past.lines)) (hears (body.Committed l) own c) (count_more (body.Committed l) (count past.lines))
+              (next_count (body.Committed l) (count past.lines)) (hears (body.Committed l) own c) (count_more (body.Committed l)
+              (count past.lines))
               (done_first asks_now (ask_of e) l a role asked found nested h)),
         )
       where
-        own_end : a.kind ≡ kind.Nested → (k : ℕ) → id_in (acts past.lines) (name l) ≡ Some k → IsEnded (acts past.lines) (committings past.lines ++ []) k
+        own_end : a.kind ≡ kind.Nested → (k : ℕ) → id_in (acts past.lines) (name l) ≡ Some k →
+            IsEnded (acts past.lines) (committings past.lines ++ []) k
         own_end is_nested k is =
             let same : Some a.id ≡ Some k = sym (λ i. option_map (λ (y : Act). y.id) (found i)) ∙ is in
             let one : a.id ≡ k = cc in (
@@ -477,7 +525,8 @@ module _ (past : Past) (own : Bool) (c : Client) (st : Stand past.lines) where
           stand_next past.lines x (sound_begun (0 + length past.lines) (view past.lines) l k u p st.sound both.0)
               (subst (AreCalled (act_begun (view past.lines) l k u p ∷ acts past.lines)) (sym (append-nil (committings past.lines)))
               (called_begun (acts past.lines) (act_begun (view past.lines) l k u p) (committings past.lines) st.called))
-              (ended_still (acts past.lines) (act_begun (view past.lines) l k u p ∷ acts past.lines) (committings past.lines) [] (committed past.lines)
+              (ended_still (acts past.lines) (act_begun (view past.lines) l k u p ∷ acts past.lines) (committings past.lines) []
+              (committed past.lines)
               (λ a there. inr there) st.ended),
           holds_next past.lines x asks_now (hears (body.Began l k u p) own c)
               (more_counted (next_view (0 + length past.lines) (body.Began l k u p) (view past.lines)) asks_now (count past.lines)
@@ -489,7 +538,8 @@ module _ (past : Past) (own : Bool) (c : Client) (st : Stand past.lines) where
           stand_next past.lines x (sound_still (view past.lines) st.sound)
               (all_append (λ (m : Placed (List Act)). IsCalled (acts past.lines) m.it) (committings past.lines) _ st.called
               (calls_first a l found line, tt))
-              (ended_still (acts past.lines) (acts past.lines) (committings past.lines) _ (committed past.lines) (λ z there. there) st.ended),
+              (ended_still (acts past.lines) (acts past.lines) (committings past.lines) _ (committed past.lines)
+              (λ z there. there) st.ended),
           holds_next past.lines x asks_now c
               (unread (view past.lines) asks_now (count past.lines) (next_count (body.Committing l) (count past.lines)) c c
               (count_more (body.Committing l) (count past.lines)) h),

@@ -1,3 +1,4 @@
+pub mod Fits
 pub mod Labels
 pub mod Acts
 pub mod Views

@@ -58,7 +58,8 @@ hears_number (body.Committed l) own c =
     number_if c.number (waits phase.Committing (name l) c) (commits_at c.blocks c) c (commits_number c.blocks c) refl
 hears_number (body.Aborted l cause) own c = aborted_number (name l) c
 hears_number (body.Halted n) own c =
-    number_if c.number ((n == c.node) && is_open c) (stands (if is_phase phase.Failing c.phase then phase.Failed else phase.GaveUp) c) c refl refl
+    number_if c.number ((n == c.node) && is_open c) (stands
+    (if is_phase phase.Failing c.phase then phase.Failed else phase.GaveUp) c) c refl refl
 hears_number _ own c = refl
 
 begins_number : (bs : List Level) (c : Client) → (let a = begins bs c in let e = a.client in e.number) ≡ c.number

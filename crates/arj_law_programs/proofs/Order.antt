@@ -1,5 +1,6 @@
 -- The calls of a committed program's top stand together in the serial order.
-use Rattle.std.proofs.Common.{◌≡◌, ◌∙◌, ◌<◌, ◌≤◌, ◌⊎◌, inl, inr, ℕ, ◌+◌, List, [], ◌∷◌, ◌++◌, map, refl, ap, sym, subst, arith, true, false, Bool}
+use Rattle.std.proofs.Common.{◌≡◌, ◌∙◌, ◌<◌, ◌≤◌, ◌⊎◌, inl, inr, ℕ, ◌+◌, List, [], ◌∷◌, ◌++◌, map, refl, ap, sym, subst, arith, true, false}
+use Rattle.std.proofs.Common.{Bool}
 use Rattle.std.proofs.Common.{Option, Some, None, cond, ◌||◌, ◌==◌, eq-eqb, eqb-true, true≢false}
 use Rattle.std.specs.Prelude.{get_or}
 use Rattle.std.specs.List.{AllByRecursion, cons_option, filter_map, list_any}
@@ -48,14 +49,17 @@ rising : (lines : List Line) → Pairwise (λ (t u : Top). t.at < u.at) (tops li
 rising lines =
     pairwise_filter_map (λ (s t : Placed (List Act)). s.at < t.at) (λ t u. t.at < u.at) (top_of (committed lines) (recovered lines))
     (λ s t c d lt e g. subst (λ n. n < d.at) (sym (top_at (committed lines) (recovered lines) s c e))
-    (subst (λ n. s.at < n) (sym (top_at (committed lines) (recovered lines) t d g)) lt)) (committings lines) (read_rises committing_of [] 0 lines)
+    (subst (λ n. s.at < n) (sym (top_at (committed lines) (recovered lines) t d g)) lt)) (committings lines)
+    (read_rises committing_of [] 0 lines)
 
 -- no commit is called in the first line
-from_one : (us : List Act) (n : ℕ) (ls : List Line) → 1 ≤ n → AllByRecursion (λ (m : Placed (List Act)). 0 < m.at) (read committing_of us n ls)
+from_one : (us : List Act) (n : ℕ) (ls : List Line) → 1 ≤ n →
+    AllByRecursion (λ (m : Placed (List Act)). 0 < m.at) (read committing_of us n ls)
 from_one us n [] low = tt
 from_one us n (l ∷ ls) low = by (committing_of us l.body) (from_one (acts_after us l.body) (n + 1) ls (omega (arith, low)))
   where
-    by : (o : Option (List Act)) → AllByRecursion (λ (m : Placed (List Act)). 0 < m.at) (read committing_of (acts_after us l.body) (n + 1) ls) →
+    by : (o : Option (List Act)) → AllByRecursion (λ (m : Placed (List Act)). 0 < m.at) (read committing_of (acts_after us l.body)
+        (n + 1) ls) →
         AllByRecursion (λ (m : Placed (List Act)). 0 < m.at) (put n o (read committing_of (acts_after us l.body) (n + 1) ls))
     by None ih = ih
     by (Some p) ih = (omega (arith, low), ih)
@@ -83,13 +87,15 @@ called_late us (l ∷ ls) all =
 late : (us : List Act) (lines : List Line) → AreCalled us (committings lines) → AllByRecursion (λ (t : Top). 0 < t.at) (tops lines)
 late us lines all =
     all_filter_map (λ (m : Placed (List Act)). 0 < m.at) (λ (t : Top). 0 < t.at) (top_of (committed lines) (recovered lines))
-    (λ m t low e. subst (λ n. 0 < n) (sym (top_at (committed lines) (recovered lines) m t e)) low) (committings lines) (called_late us lines all)
+    (λ m t low e. subst (λ n. 0 < n) (sym (top_at (committed lines) (recovered lines) m t e)) low) (committings lines)
+    (called_late us lines all)
 
 -- the top is among these
 abbrev has_top : List Top → ℕ → Bool
 has_top ts i = list_any (λ (t : Top). t.id == i) ts
 
-called_there : (us : List Act) (e : List (Placed ℕ)) (f : List (Placed Uid)) (id : ℕ) → has_end e id ≡ true → (ms : List (Placed (List Act))) →
+called_there : (us : List Act) (e : List (Placed ℕ)) (f : List (Placed Uid)) (id : ℕ) → has_end e id ≡ true →
+    (ms : List (Placed (List Act))) →
     AreCalled us ms → was_called ms id ≡ true → has_top (filter_map (top_of e f) ms) id ≡ true
 called_there us e f id done [] all never = absurd (true≢false (sym never))
 called_there us e f id done (m ∷ ms) all holds =
@@ -106,7 +112,8 @@ called_there us e f id done (m ∷ ms) all holds =
         (sym (λ i. cond (yes_it i) (Some (record { id = a.id; root = root_or a.id (root_in m.it); at = m.at })) None) ∙ sym made ∙ eq)
         (λ i. same i || has_top (filter_map (top_of e f) ms) id)
 
-    other : (o : Option Top) → has_top (filter_map (top_of e f) ms) id ≡ true → has_top (cons_option o (filter_map (top_of e f) ms)) id ≡ true
+    other : (o : Option Top) → has_top (filter_map (top_of e f) ms) id ≡ true →
+        has_top (cons_option o (filter_map (top_of e f) ms)) id ≡ true
     other None ih = ih
     other (Some t) ih = or_second (t.id == id) (has_top (filter_map (top_of e f) ms) id) ih
 
@@ -156,7 +163,8 @@ place_apart (t ∷ ts) i j rise low has apart same =
 
 -- ---- calls
 
-module _ (lines : List Line) (id : ℕ) (has : has_top (tops lines) id ≡ true) (low : AllByRecursion (λ (t : Top). 0 < t.at) (tops lines)) where
+module _ (lines : List Line) (id : ℕ) (has : has_top (tops lines) id ≡ true) (low : AllByRecursion (λ (t : Top). 0 < t.at)
+    (tops lines)) where
   abbrev key_of : Call → List ℕ
   key_of x = serial_key (tops lines) x.top
 
@@ -195,7 +203,8 @@ answers_front : (values : Values) (xs ys : List Call) → Answers values (xs ++ 
 answers_front values [] ys a = tt
 answers_front values (x ∷ xs) ys a = (a.0, answers_front (after values x) xs ys a.1)
 
-answered_so : (cs : List Call) (ss : List heard_call) → map told_of cs ≡ map told_by ss → (values : Values) → Answers values cs → Answered values ss
+answered_so : (cs : List Call) (ss : List heard_call) → map told_of cs ≡ map told_by ss → (values : Values) → Answers values cs →
+    Answered values ss
 answered_so [] [] e values a = tt
 answered_so [] (s ∷ ss) e values a = absurd (cc e)
 answered_so (c ∷ cs) [] e values a = absurd (cc e)
@@ -233,7 +242,8 @@ runs_alone hd lines c called serial means done is =
     }
 
 pub all_run_alone : (hd : Header) (lines : List Line) (cs : List Client) → AreCalled (acts lines) (committings lines) →
-    Serial (first_values hd) lines → AllByRecursion MeansItsCalls cs → AllByRecursion (λ (c : Client). c.phase ≡ phase.Committed → Done lines c) cs →
+    Serial (first_values hd) lines → AllByRecursion MeansItsCalls cs → AllByRecursion (λ (c : Client). c.phase ≡ phase.Committed →
+    Done lines c) cs →
     AllByRecursion (RunsAsAlone hd lines) cs
 all_run_alone hd lines [] called serial means done = tt
 all_run_alone hd lines (c ∷ cs) called serial means done =

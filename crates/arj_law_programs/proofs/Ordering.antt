@@ -40,7 +40,8 @@ module _ {A : Type 0} (key : A → List ℕ) (k : List ℕ) (test : A → Bool) 
       insert (λ x y. lex (key x) (key y)) a (bs ++ rest) ≡ bs ++ insert (λ x y. lex (key x) (key y)) a rest
   passes a [] rest all = refl
   passes a (b ∷ bs) rest all =
-      (λ i. cond (all.0 i) (b ∷ insert (λ x y. lex (key x) (key y)) a (bs ++ rest)) (a ∷ b ∷ (bs ++ rest))) ∙ ap (λ ys. b ∷ ys) (passes a bs rest all.1)
+      (λ i. cond (all.0 i) (b ∷ insert (λ x y. lex (key x) (key y)) a (bs ++ rest)) (a ∷ b ∷ (bs ++ rest)))
+      ∙ ap (λ ys. b ∷ ys) (passes a bs rest all.1)
 
   stops : (a : A) (rest : List A) → AllByRecursion (λ (b : A). lex (key b) (key a) ≡ false) rest →
       insert (λ x y. lex (key x) (key y)) a rest ≡ a ∷ rest
@@ -59,11 +60,13 @@ module _ {A : Type 0} (key : A → List ℕ) (k : List ℕ) (test : A → Bool) 
       by false ih = refl
 
   -- those of the key
-  filtered : (xs : List A) → AllByRecursion (λ (x : A). Stands (IsBefore x) (IsBehind x) (IsAmong x)) xs → AllByRecursion IsAmong (filter test xs)
+  filtered : (xs : List A) → AllByRecursion (λ (x : A). Stands (IsBefore x) (IsBehind x) (IsAmong x)) xs →
+      AllByRecursion IsAmong (filter test xs)
   filtered [] all = tt
   filtered (x ∷ xs) all = by all.0 (filtered xs all.1)
     where
-      out : test x ≡ false → AllByRecursion IsAmong (filter test xs) → AllByRecursion IsAmong (cond (test x) (x ∷ filter test xs) (filter test xs))
+      out : test x ≡ false → AllByRecursion IsAmong (filter test xs) →
+          AllByRecursion IsAmong (cond (test x) (x ∷ filter test xs) (filter test xs))
       out e ih = subst (λ b. AllByRecursion IsAmong (cond b (x ∷ filter test xs) (filter test xs))) (sym e) ih
 
       by : Stands (IsBefore x) (IsBehind x) (IsAmong x) → AllByRecursion IsAmong (filter test xs) →
@@ -88,8 +91,10 @@ module _ {A : Type 0} (key : A → List ℕ) (k : List ℕ) (test : A → Bool) 
             (all_map IsBefore (λ (b : A). lex (key b) (key x) ≡ true) (λ b o. ap (lex (key b)) m.1 ∙ o.1) p.before p.firsts)
             ∙ ap (λ ys. p.before ++ ys) (stops x (filter test xs ++ p.after)
             (all_append (λ (b : A). lex (key b) (key x) ≡ false) (filter test xs) p.after
-            (all_map IsAmong (λ (b : A). lex (key b) (key x) ≡ false) (λ b o. (λ i. lex (o.1 i) (m.1 i)) ∙ lex_same k) (filter test xs) same)
-            (all_map IsBehind (λ (b : A). lex (key b) (key x) ≡ false) (λ b o. ap (lex (key b)) m.1 ∙ lex_turn k (key b) o.1) p.after p.lasts)))
+            (all_map IsAmong (λ (b : A). lex (key b) (key x) ≡ false) (λ b o. (λ i. lex (o.1 i) (m.1 i))
+            ∙ lex_same k) (filter test xs) same)
+            (all_map IsBehind (λ (b : A). lex (key b) (key x) ≡ false) (λ b o. ap (lex (key b)) m.1
+            ∙ lex_turn k (key b) o.1) p.after p.lasts)))
             ∙ (λ i. p.before ++ (cond (sym m.0 i) (x ∷ filter test xs) (filter test xs) ++ p.after));
         firsts = p.firsts;
         lasts = p.lasts;
@@ -99,7 +104,8 @@ module _ {A : Type 0} (key : A → List ℕ) (k : List ℕ) (test : A → Bool) 
         after = insert (λ a b. lex (key a) (key b)) x p.after;
         cut = ap (insert (λ a b. lex (key a) (key b)) x) p.cut
             ∙ passes x p.before (filter test xs ++ p.after)
-            (all_map IsBefore (λ (b : A). lex (key b) (key x) ≡ true) (λ b q. lex_then (key b) k (key x) q.1 (lex_turn k (key x) o.1)) p.before p.firsts)
+            (all_map IsBefore (λ (b : A). lex (key b) (key x) ≡ true) (λ b q. lex_then (key b) k (key x) q.1 (lex_turn k
+            (key x) o.1)) p.before p.firsts)
             ∙ ap (λ ys. p.before ++ ys) (passes x (filter test xs) p.after
             (all_map IsAmong (λ (b : A). lex (key b) (key x) ≡ true) (λ b q. ap (λ j. lex j (key x)) q.1 ∙ o.1) (filter test xs) same))
             ∙ ap (λ ys. p.before ++ (ys ++ insert (λ a b. lex (key a) (key b)) x p.after)) (kept_out x xs o.0);
@@ -112,7 +118,8 @@ module _ {A : Type 0} (key : A → List ℕ) (k : List ℕ) (test : A → Bool) 
         cut = ap (insert (λ a b. lex (key a) (key b)) x) p.cut
             ∙ stays_in x p.before (filter test xs ++ p.after)
             (all_append (λ (b : A). lex (key b) (key x) ≡ false) (filter test xs) p.after
-            (all_map IsAmong (λ (b : A). lex (key b) (key x) ≡ false) (λ b q. ap (λ j. lex j (key x)) q.1 ∙ lex_turn (key x) k o.1) (filter test xs) same)
+            (all_map IsAmong (λ (b : A). lex (key b) (key x) ≡ false) (λ b q. ap (λ j. lex j (key x)) q.1
+            ∙ lex_turn (key x) k o.1) (filter test xs) same)
             (all_map IsBehind (λ (b : A). lex (key b) (key x) ≡ false)
             (λ b q. lex_turn (key x) (key b) (lex_then (key x) k (key b) o.1 (lex_turn k (key b) q.1))) p.after p.lasts))
             ∙ ap (λ ys. insert (λ a b. lex (key a) (key b)) x p.before ++ (ys ++ p.after)) (kept_out x xs o.0);

@@ -47,7 +47,8 @@ run_ends tells hd moves plan trace end has s run =
     let quiet : EndsQuiet trace = subst EndsQuiet (sym s.whole) (ends_quiet s.front s.lines) in
     let traced : TraceHas (Step hd) (at_start fresh) trace =
     run_has (Step hd) trace (journal_by hd (from_format hd moves))
-    (subst (λ es. Runs (Step hd) fresh es (journal_by hd (from_format hd moves))) (sym run.events) follows) run.journal run.numbered quiet in
+    (subst (λ es. Runs (Step hd) fresh es (journal_by hd (from_format hd moves)))
+    (sym run.events) follows) run.journal run.numbered quiet in
     let fit = trace_fits hd (at_start fresh) trace traced run.numbered in
     let few : 1 + length plan.programs ≤ 2 ^ 64 = let most = has.1 in omega (arith, most) in
     let reached = schedule_reaches plan few (some_program plan.programs has.0) trace end s fit.0 fit.1 in
@@ -63,4 +64,5 @@ calls_survive tells hd moves plan trace end has s run =
 pub programs_run_alone : JournalsTell → ProgramsMean → ProgramsRunAlone
 programs_run_alone tells means hd moves plan trace end has s run serial =
     let e = run_ends tells hd moves plan trace end has s run in
-    all_run_alone hd (journal_by hd (from_format hd moves)) end.clients (let st = e.stand in st.called) serial (means plan trace end s) e.done
+    all_run_alone hd (journal_by hd (from_format hd moves)) end.clients (let st = e.stand in st.called) serial
+    (means plan trace end s) e.done

@@ -1,5 +1,6 @@
 -- What holds of a program between lines: the calls that it has heard are those that the journal has.
-use Rattle.std.proofs.Common.{◌≡◌, ◌∙◌, ◌<◌, ◌≤◌, ◌⊎◌, inl, inr, ℕ, ◌+◌, List, [], ◌∷◌, ◌++◌, length, map, refl, ap, sym, subst, arith, true, false}
+use Rattle.std.proofs.Common.{◌≡◌, ◌∙◌, ◌<◌, ◌≤◌, ◌⊎◌, inl, inr, ℕ, ◌+◌, List, [], ◌∷◌, ◌++◌, length, map, refl, ap, sym, subst, arith}
+use Rattle.std.proofs.Common.{true, false}
 use Rattle.std.proofs.Common.{Bool, Option, Some, None, cond, ◌&&◌, ◌||◌, ◌==◌, if◌then◌else◌}
 use Rattle.std.proofs.lemmas.Bool.Decides.{nat_tests}
 use Rattle.std.specs.Prelude.{⊤, nat_lt}
@@ -83,7 +84,8 @@ IsDone phase.Committed v top bs = (bs ≡ []) × (end_in v.ends (id_in v.acts to
 IsDone p v top bs = ⊤
 
 -- What holds of a program that may commit.
-pub record Tracks (v : View) (asks : Asks) (ans : Counted) (p : Phase) (i : ℕ) (o : Option Statement) (top : Mark) (bs : List Mark) : Type 0 where
+pub record Tracks (v : View) (asks : Asks) (ans : Counted) (p : Phase) (i : ℕ) (o : Option Statement) (top : Mark)
+    (bs : List Mark) : Type 0 where
   pub label : IsOf i top.label
   pub labels : AllByRecursion (λ (b : Mark). IsOf i b.label) bs
   pub opens : Opens (begins_now p) v top bs
@@ -192,7 +194,8 @@ begun_elsewhere v u asks ans bns p i o top bs new h t =
         by false fails = refl
         by true holds =
             let never : None ≡ Some t =
-            sym new ∙ ap (act_in v.acts) (same_label u.label top.label holds) ∙ top_there v.acts t top below bs op.stack in absurd (cc never)
+            sym new ∙ ap (act_in v.acts) (same_label u.label top.label holds)
+            ∙ top_there v.acts t top below bs op.stack in absurd (cc never)
 
 pub ended_elsewhere : (v : View) → Sound v → (e : Placed ℕ) (asks : Asks) (ans bns : Counted) (p : Phase) (i : ℕ) (o : Option Statement)
     (top : Mark) (bs : List Mark) → IsApart v.acts i e.it → ((l : List ℕ) → ans l ≤ bns l) → Tracks v asks ans p i o top bs →
@@ -211,8 +214,10 @@ ended_elsewhere v sound e asks ans bns p i o top bs apart h t =
     end_more None holds = holds
     end_more (Some n) holds = has_more v.ends e n ∙ (λ j. holds j || (e.it == n))
 
-pub called_elsewhere : (v : View) (s : Placed Said) (asks : Asks) (ans bns : Counted) (p : Phase) (i : ℕ) (o : Option Statement) (top : Mark)
-    (bs : List Mark) → ((t : Act) (below : List Act) (cs : List Mark) → IsOf i top.label → Stack v.acts t top below cs → is_top t.id (top_in s.it.path) ≡ false) →
+pub called_elsewhere : (v : View) (s : Placed Said) (asks : Asks) (ans bns : Counted) (p : Phase) (i : ℕ) (o : Option Statement)
+    (top : Mark)
+    (bs : List Mark) → ((t : Act) (below : List Act) (cs : List Mark) → IsOf i top.label → Stack v.acts t top below cs →
+    is_top t.id (top_in s.it.path) ≡ false) →
     ((l : List ℕ) → ans l ≤ bns l) → Tracks v asks ans p i o top bs →
     Tracks (record v { said = v.said ++ s ∷ [] }) asks bns p i o top bs
 called_elsewhere v s asks ans bns p i o top bs other h t =
@@ -256,7 +261,11 @@ answers_call accepted lines l x op is = ended (has_ended lines l) is
     more : (b : Bool) → nat_lt (length (answers_to lines l)) (length (asks_by accepted l)) ≡ b →
         IsCallOf x op (option_map (λ a. a.event) (cond b (last_asked (asks_by accepted l)) None)) →
         AnswersCall (asks_by accepted) (λ m. length (answers_to lines m)) l x op
-    more true e it = (nat_below (length (answers_to lines l)) (length (asks_by accepted l)) e, last (last_asked (asks_by accepted l)) refl it)
+    more true e it = (
+      nat_below (length (answers_to lines l)) (length (asks_by accepted l)) e,
+      last (last_asked
+          (asks_by accepted l)) refl it,
+    )
       where
         nat_below : (m n : ℕ) → nat_lt m n ≡ true → m < n
         nat_below m n holds = grind (arith, nat_tests, holds)

@@ -118,7 +118,8 @@ counts_joined ends e a is same x =
     or_or true q r = refl
     or_or false q r = refl
 
-all_fails : (f : Act → Bool) (n : ℕ) (xs : List Act) → among (ids xs) n ≡ true → ((x : Act) → x.id ≡ n → f x ≡ false) → list_all f xs ≡ false
+all_fails : (f : Act → Bool) (n : ℕ) (xs : List Act) → among (ids xs) n ≡ true → ((x : Act) → x.id ≡ n → f x ≡ false) →
+    list_all f xs ≡ false
 all_fails f n [] holds fails = absurd (true≢false (sym holds))
 all_fails f n (x ∷ xs) holds fails = by (x.id == n) refl holds (λ more. all_fails f n xs more fails)
   where
@@ -159,7 +160,8 @@ module _ (v : View) (t a : Act) (e : Placed ℕ) (same : e.it ≡ a.id) where
           ∙ (λ i. or_false (has_end v.ends x.id) i || among (ids os) x.id)
 
       undone_at : (x : Act) → x.id ≡ p.id → counts v.ends (ids os) x ≡ false
-      undone_at x is = or_neither (has_end v.ends x.id) (among (ids os) x.id) (ap (has_end v.ends) is ∙ undone) (ap (among (ids os)) is ∙ out)
+      undone_at x is = or_neither (has_end v.ends x.id) (among (ids os) x.id) (ap (has_end v.ends) is ∙ undone) (ap (among (ids os)) is
+          ∙ out)
 
       undone_more : (x : Act) → x.id ≡ p.id → counts (v.ends ++ e ∷ []) (ids os) x ≡ false
       undone_more x is =
@@ -192,7 +194,8 @@ module _ (v : View) (t a : Act) (e : Placed ℕ) (same : e.it ≡ a.id) where
       same_keeps p = λ i. is_top t.id (top_in p) && list_all (λ x. counts_joined v.ends e a (ids below) same x i) (chain_in p)
 
       these : (ss : List (Placed Said)) →
-          AllByRecursion (λ (s : Placed Said). keeps (v.ends ++ e ∷ []) (ids below) t.id s.it.path ≡ keeps v.ends (ids (a ∷ below)) t.id s.it.path) ss
+          AllByRecursion (λ (s : Placed Said). keeps (v.ends ++ e ∷ []) (ids below) t.id s.it.path ≡ keeps v.ends (ids
+          (a ∷ below)) t.id s.it.path) ss
       these [] = tt
       these (s ∷ ss) = (same_keeps s.it.path, these ss)
 
@@ -214,7 +217,8 @@ module _ (v : View) (t a : Act) (e : Placed ℕ) (same : e.it ≡ a.id) where
   stack_joined b top [] (q ∷ qs) s = absurd s
   stack_joined b top (p ∷ ps) [] s = absurd s
 
-  undone_still : (below : List Act) → AllByRecursion (λ (x : Act). x.id < a.id) below → AllByRecursion (λ (x : Act). has_end v.ends x.id ≡ false) below →
+  undone_still : (below : List Act) → AllByRecursion (λ (x : Act). x.id < a.id) below →
+      AllByRecursion (λ (x : Act). has_end v.ends x.id ≡ false) below →
       AllByRecursion (λ (x : Act). has_end (v.ends ++ e ∷ []) x.id ≡ false) below
   undone_still [] low none = tt
   undone_still (x ∷ xs) low none = (
@@ -227,7 +231,8 @@ module _ (v : View) (t a : Act) (e : Placed ℕ) (same : e.it ≡ a.id) where
   open_joined b top below bs o = record {
     kind = o.kind;
     stack = stack_joined b top below bs (let s = o.stack in s.1);
-    live = live_joined b top below bs (let f = o.falls in f.0) (let u = o.undone in u.1) (let f = o.falls in f.1) (let n = o.nests in n.0) o.live;
+    live = live_joined b top below bs (let f = o.falls in f.0) (let u = o.undone in u.1) (let f = o.falls in f.1)
+        (let n = o.nests in n.0) o.live;
     undone = undone_still below (let f = o.falls in f.0) (let u = o.undone in u.1);
     falls = let f = o.falls in f.1;
     nests = let n = o.nests in n.1;
@@ -312,8 +317,10 @@ module _ (v : View) (sound : Sound v) (u : Act) (new : act_in v.acts u.label ≡
       kept_same v.ends v.ends (ids (u ∷ below)) (ids below) t.id v.said
           (all_map (λ (s : Placed Said). IsRead v.acts s.it.path)
           (λ s. keeps v.ends (ids (u ∷ below)) t.id s.it.path ≡ keeps v.ends (ids below) t.id s.it.path)
-          (λ s r i. is_top t.id (top_in s.it.path) && not_among (counts v.ends (ids (u ∷ below))) (counts v.ends (ids below)) u.id (chain_in s.it.path)
-          (not_read s.it.path r) (λ x fails j. has_end v.ends x.id || (turned x.id u.id fails j || among (ids below) x.id)) i) v.said sound.said)
+          (λ s r i. is_top t.id (top_in s.it.path) && not_among (counts v.ends (ids (u ∷ below))) (counts v.ends (ids below)) u.id
+          (chain_in s.it.path)
+          (not_read s.it.path r) (λ x fails j. has_end v.ends x.id || (turned x.id u.id fails j || among
+          (ids below) x.id)) i) v.said sound.said)
           ∙ live_here v.ends v.said t.id top below bs o.live ∙ sym (append-nil (sum_of top bs)) ∙ ap (λ cs. sum_of top bs ++ cs) (sym none),
       o.live,
     );

@@ -1,5 +1,6 @@
 -- The turns of the schedule, one after another.
-use Rattle.std.proofs.Common.{◌≡◌, ◌∙◌, ◌<◌, ◌≤◌, inl, inr, ℕ, zero, suc, ◌+◌, List, [], ◌∷◌, ◌++◌, length, refl, ap, sym, subst, arith, true, false}
+use Rattle.std.proofs.Common.{◌≡◌, ◌∙◌, ◌<◌, ◌≤◌, inl, inr, ℕ, zero, suc, ◌+◌, List, [], ◌∷◌, ◌++◌, length, refl, ap, sym, subst, arith}
+use Rattle.std.proofs.Common.{true, false}
 use Rattle.std.proofs.Common.{Bool, Option, Some, None, ◌||◌, ◌==◌, ◌%◌, if◌then◌else◌, slice_get, slice_set}
 use Rattle.std.proofs.lemmas.Bool.Decides.{nat_tests}
 use Rattle.std.specs.Prelude.{◌^◌}
@@ -13,7 +14,8 @@ use Rattle.arj_model.specs.Refusals.{asks_by}
 use Rattle.arj_prog.specs.declared.plan.Plan.{Plan}
 use Rattle.arj_prog.specs.declared.plan.Program.{Program}
 use Rattle.arj_progrun.proofs.Stacks.{some_same}
-use Rattle.arj_progrun.specs.Client.{Aborts, Ask, Asking, Begins, BeginsIn, Calls, Client, Commits, GivesUp, LosesLast, Other, Quiesces, Settles, Ticks}
+use Rattle.arj_progrun.specs.Client.{Aborts, Ask, Asking, Begins, BeginsIn, Calls, Client, Commits, GivesUp, LosesLast, Other, Quiesces}
+use Rattle.arj_progrun.specs.Client.{Settles, Ticks}
 use Rattle.arj_progrun.specs.Client.{turned}
 use Rattle.arj_progrun.specs.Events.{ask_of}
 use Rattle.arj_progrun.specs.Schedule.{Given, GivesAsk, Schedule, Standing, Turning, Turns, asks_by_it, clients_from}
@@ -27,7 +29,7 @@ use Rattle.arj_law_programs.proofs.Later.{IsElsewhere, IsNamed, NamedBy, Stand, 
 use Rattle.arj_law_programs.proofs.Numbers.{turned_number}
 use Rattle.arj_law_programs.proofs.Tracking.{Asks, Counted, Holds}
 use Rattle.arj_law_programs.proofs.Views.{View, view}
-use Rattle.arj_law_programs.specs.Fits.{AreFit, FitAlong, bodies_of}
+use Rattle.arj_law_programs.proofs.Fits.{AreFit, FitAlong, bodies_of}
 
 -- ---- what a turn leaves before its event comes
 
@@ -220,7 +222,8 @@ heard_so p t e lines st ask is so (c, rest, cut) fit =
     let heard = lines_all t.by lines t.now in
     record {
       stand = stands_behind p e t.by (bodies_of lines) st named quiet fit c first.0;
-      all = subst (AllHold (view (let z = next p e (bodies_of lines) in z.lines)) (asks_by (let z = next p e (bodies_of lines) in z.accepted))
+      all = subst (AllHold (view (let z = next p e (bodies_of lines) in z.lines)) (asks_by (let z = next p e
+          (bodies_of lines) in z.accepted))
           (count (let z = next p e (bodies_of lines) in z.lines)) 1) (sym heard)
           (all_heard p e t.by st named (bodies_of lines) quiet fit 0 (let n = t.now in n.clients) mids);
       some = (_, _, heard ∙ ap (hear_lines t.by 0 (bodies_of lines)) cut);
@@ -249,7 +252,8 @@ turn_some nodes turn draw s some =
     by_one n None = some
     by_one n (Some c) = set n s.clients (let a = turned c in a.client) some.2
       where
-        set : (m : ℕ) (cs : List Client) (d : Client) → cs ≡ some.0 ∷ some.1 → (b : Client) × (rest : List Client) × (slice_set cs m d ≡ b ∷ rest)
+        set : (m : ℕ) (cs : List Client) (d : Client) → cs ≡ some.0 ∷ some.1 →
+            (b : Client) × (rest : List Client) × (slice_set cs m d ≡ b ∷ rest)
         set m [] d e = absurd (cc e)
         set zero (b ∷ cs) d e = (d, cs, refl)
         set (suc m) (b ∷ cs) d e = (b, slice_set cs m d, refl)
@@ -272,7 +276,8 @@ first_hold n (p ∷ ps) few = (
 first_stand : Stand []
 first_stand = record { sound = record { numbered = tt; good = tt; said = tt; ends = tt }; called = tt; ended = tt }
 
-module _ (plan : Plan) (few : 1 + length plan.programs ≤ 2 ^ 64) (some : (p : Program) × (rest : List Program) × (plan.programs ≡ p ∷ rest)) where
+module _ (plan : Plan) (few : 1 + length plan.programs ≤ 2 ^ 64) (some : (p : Program) × (rest : List Program)
+    × (plan.programs ≡ p ∷ rest)) where
   pub turns_reach : (turns : ℕ) (trace : List Given) (now : Standing) → Turns plan turns trace now → (end : Past) →
       FitAlong (at_start fresh) trace end → Reached end now
   turns_reach zero trace now (none, is) end fit =
@@ -294,24 +299,31 @@ module _ (plan : Plan) (few : 1 + length plan.programs ≤ 2 ^ 64) (some : (p : 
           GivesAsk o (turn_at (let h = plan.header in h.nodes) n before) front trace now → Reached end now
       by_ask None e ih (same, is) =
           let r = ih end (subst (λ gs. FitAlong (at_start fresh) gs end) same fit) in
-          let so = turn_so (view end.lines) (asks_by end.accepted) (count end.lines) (let h = plan.header in h.nodes) n (drawn before.state) here r.all in
+          let so = turn_so (view end.lines) (asks_by end.accepted) (count end.lines) (let h = plan.header in h.nodes) n
+          (drawn before.state) here r.all in
           subst (Reached end) (sym is) (record {
             stand = r.stand;
-            all = subst (λ o. TurnSo (view end.lines) (asks_by end.accepted) (count end.lines) o (turn_at (let h = plan.header in h.nodes) n before)) e so;
+            all = subst (λ o. TurnSo (view end.lines) (asks_by end.accepted) (count end.lines) o (turn_at
+                (let h = plan.header in h.nodes) n before)) e so;
             some = turn_some (let h = plan.header in h.nodes) n (drawn before.state) here r.some;
           })
       by_ask (Some ask) e ih (g, asked, same, is) =
           let cut = fit_split (at_start fresh) front g end (subst (λ gs. FitAlong (at_start fresh) gs end) same fit) in
           let p = cut.0 in
           let r = ih p cut.1 in
-          let so = turn_so (view p.lines) (asks_by p.accepted) (count p.lines) (let h = plan.header in h.nodes) n (drawn before.state) here r.all in
-          subst (Reached end) (sym is) (subst (λ q. Reached q (lines_heard (let t = turn_at (let h = plan.header in h.nodes) n before in t.by) g.lines (let t = turn_at (let h = plan.header in h.nodes) n before in t.now))) cut.3
+          let so = turn_so (view p.lines) (asks_by p.accepted) (count p.lines) (let h = plan.header in h.nodes) n
+          (drawn before.state) here r.all in
+          subst (Reached end) (sym is) (subst (λ q. Reached q (lines_heard (let t = turn_at
+          (let h = plan.header in h.nodes) n before in t.by) g.lines (let t = turn_at
+          (let h = plan.header in h.nodes) n before in t.now))) cut.3
           (heard_so p (turn_at (let h = plan.header in h.nodes) n before) g.event g.lines r.stand ask asked
-          (subst (λ o. TurnSo (view p.lines) (asks_by p.accepted) (count p.lines) o (turn_at (let h = plan.header in h.nodes) n before)) e so)
+          (subst (λ o. TurnSo (view p.lines) (asks_by p.accepted) (count p.lines) o (turn_at
+          (let h = plan.header in h.nodes) n before)) e so)
           (turn_some (let h = plan.header in h.nodes) n (drawn before.state) here r.some) cut.2))
 
   -- and behind the quiesce
-  pub schedule_reaches : (trace : List Given) (now : Standing) → Schedule plan trace now → (end : Past) → FitAlong (at_start fresh) trace end →
+  pub schedule_reaches : (trace : List Given) (now : Standing) → Schedule plan trace now → (end : Past) →
+      FitAlong (at_start fresh) trace end →
       Reached end now
   schedule_reaches trace now s end fit =
       let g : Given = record { event = event.Quiesce; lines = s.lines } in

@@ -1,4 +1,3 @@
 pub mod Counts
-pub mod Fits
 pub mod Laws
 pub mod Alone

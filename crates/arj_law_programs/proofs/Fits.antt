@@ -30,7 +30,8 @@ IsBegunBy ask lines l k u p = ⊥
 -- the line is the own one of a commit that was asked, by the kind of its action, which is open
 abbrev pub IsOwnCommit : Past → Event → Label → Body → Type 0
 IsOwnCommit past e l b =
-    (ask_of e ≡ Commits (name l)) × ((a : Act) × (act_in (acts past.lines) (name l) ≡ Some a) × (commit_line a.kind l ≡ b)) × (has_ended past.lines (name l) ≡ false)
+    (ask_of e ≡ Commits (name l)) × ((a : Act) × (act_in (acts past.lines) (name l) ≡ Some a) × (commit_line a.kind l ≡ b))
+    × (has_ended past.lines (name l) ≡ false)
 
 -- A line behind an event's first one, and behind these lines. An `ok` answers the call that its action waits for; what is committed is a top
 -- whose commit was called; and no action begins, and no commit is called.
