@@ -1,7 +1,7 @@
 -- What each field of a journal's causes, and of its form, refuses: a line of an event behind those before it, and lines of whole runs that are changed.
 use Rattle.std.specs.Prelude.{◌≡◌, ◌<◌, ◌^◌, refl, ℕ, List, [], ◌∷◌, Bool, codes}
 use Rattle.std.proofs.Common.{arith}
-use Rattle.arj_base.specs.declared.mode.Mode.TheVariants.{Exclude}
+use Rattle.arj_base.specs.declared.mode.Mode.TheVariants.{Exclude, Write}
 use Rattle.arj_base.specs.declared.mode.End.TheVariants.{Commit}
 use Rattle.arj_class.specs.declared.op.Op.TheVariants as op
 use Rattle.arj_journal.specs.declared.body.Body.{Body}
@@ -19,8 +19,9 @@ use Rattle.arj_law_cause.specs.kinds.Kinds.{is_quiet, is_sent, is_up, is_void}
 use Rattle.arj_law_cause.specs.kinds.Rows.{row}
 use Rattle.arj_law_cause.specs.rows.Lines.{answer_fits}
 use Rattle.arj_law_cause.specs.waits.replies.Ends.{RepliesStep}
-use Rattle.arj_cause_tests.proofs.Words.{Run, after, end_from, instead, l, of_other_event, run, u, without}
+use Rattle.arj_cause_tests.proofs.Words.{Run, after, b, end_from, instead, l, of_other_event, run, u, without}
 use Rattle.arj_cause_tests.proofs.Worked.{conflict, exclusion, inclusion, naming_stopped, nested_abort, rebinding, stop_at_decision_done}
+use Rattle.arj_cause_tests.proofs.Rare.{changed_bind_naming}
 use Rattle.arj_cause_tests.proofs.Rarer.{conflict_pending}
 use Rattle.arj_cause_tests.proofs.WrongEvents.{begins, two_nodes}
 use Rattle.arj_cause_tests.proofs.WrongShows.{failing_from}
@@ -62,6 +63,17 @@ includes = refl
 
 changed : failing answer_fits (after 8 (body.Changed (l 66) 1 (difference.Inc 1 2) ∷ []) conflict) ≡ 9 ∷ 11 ∷ 19 ∷ []
 changed = refl
+
+-- nobody tells what changed
+changed_untold : failing answer_fits (without 23 changed_bind_naming) ≡ 26 ∷ []
+changed_untold = refl
+
+-- a store says a conflict: another one than loaded, and a lock that no store has
+stores_conflict : failing answer_fits (instead 47 (body.Conflict (l 66) (u 2 1 1) Write 4) conflict_pending) ≡ 47 ∷ []
+stores_conflict = refl
+
+stores_lock : failing answer_fits (instead 47 (body.Conflict (l 66) (u 2 1 1) Exclude 3) conflict_pending) ≡ 47 ∷ []
+stores_lock = refl
 
 -- ---- what nodes do, and what goes between them
 
