@@ -7,7 +7,8 @@
 -- what was asked is what was accepted (`Accepted`), so no action waits where every node is idle (`Waiting`, `Quiet`). Of ends that nodes
 -- hear of and of aborts that are done: whoever has ended where it began is over by the journal (`Over`), and of no other action does a
 -- node say so (`Tells`, `Ended`, `Aborts`); and a server does where it has a lock of the action (`Rowed`, `Served`), and none
--- when it starts anew (`Anew`). Of shows: they say what disks hold (`Held`), which are clean before them (`Shown`).
+-- when it starts anew (`Anew`). Of locks on objects: a server grants one where the table has none against it (`Granted`). Of shows: they
+-- say what disks hold (`Held`), which are clean before them (`Shown`).
 pub mod Forms
 pub mod Frames
 pub mod Refused
@@ -34,3 +35,4 @@ pub mod Anew
 pub mod Rowed
 pub mod Served
 pub mod Denied
+pub mod Granted

@@ -1,7 +1,7 @@
 // Rows of causes: lines of the world, and what nodes do.
-ghost use Rattle.arj_law_cause.specs.kinds.Kinds.{is_abort_done, is_armed, is_commit_done, is_copy_shown, is_denial, is_dropped, is_entry_shown, is_found, is_got, is_halted, is_limit, is_opening, is_plain_refusal, is_quiet, is_sent, is_told, is_told_by_server, is_up, is_void};
+ghost use Rattle.arj_law_cause.specs.kinds.Kinds.{is_abort_done, is_armed, is_commit_done, is_copy_shown, is_denial, is_dropped, is_entry_shown, is_found, is_got, is_granted_object, is_halted, is_limit, is_opening, is_plain_refusal, is_quiet, is_sent, is_told, is_told_by_server, is_up, is_void};
 ghost use Rattle.arj_law_cause.specs.kinds.Rows.{RowHolds, RowHoldsWhere, TestHolds};
-ghost use Rattle.arj_law_cause.specs.kinds.Tests.{is_copy_so, is_entry_so, is_told_so};
+ghost use Rattle.arj_law_cause.specs.kinds.Tests.{is_copy_so, is_entry_so, is_granted_so, is_told_so};
 
 /// In every run in form, wherever it begins and wherever disks stop, each line of a frame has its cause by the events and the lines before
 /// it, row by row: a frame that is sent has the next number and goes from a node that is up, or from nobody where the script hands over
@@ -88,4 +88,10 @@ pub fn told_servers_have_causes()
 /// number above 12, its action is doomed; and so is the action of a commit that was aborted as doomed. It does nothing when it runs.
 pub fn denials_have_causes()
     ensures denied { RowHolds is_denial }
+{}
+
+/// In every such run, but in a restart, a lock on an object is granted to an action that began and has no such lock at the node by the
+/// table before the line, whose path meets none there. It does nothing when it runs.
+pub fn locks_on_objects_are_free()
+    ensures granted { TestHolds is_granted_so is_granted_object }
 {}

@@ -10,7 +10,7 @@
 //! `tables_agree_inside_events`, `answers_have_causes`, `answers_are_of_their_operations`; `frame_lines_have_causes`,
 //! `stops_have_causes`, `restarts_have_causes`, `limits_have_causes`, `openings_have_causes`, `plain_refusals_have_causes`,
 //! `denials_have_causes`, `commits_done_have_causes`, `quiesces_have_causes`, `recoveries_have_causes`, `ends_have_causes`,
-//! `shows_have_causes`, `told_servers_have_causes`; `messages_can_be_spelled`, `journals_are_in_form`.
+//! `shows_have_causes`, `told_servers_have_causes`, `locks_on_objects_are_free`; `messages_can_be_spelled`, `journals_are_in_form`.
 #![tactic(auto)]
 
 mod answers;

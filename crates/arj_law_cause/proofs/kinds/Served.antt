@@ -120,7 +120,7 @@ same_start n e up (b ∷ bs) all =
 
 -- ---- ends of actions
 
-all_ends : (P : Uid → Type 0) (ends : List (Uid × End)) → ((u : Uid) (e : End) → Contains {X = Uid × End} ends (u, e) → P u) →
+pub all_ends : (P : Uid → Type 0) (ends : List (Uid × End)) → ((u : Uid) (e : End) → Contains {X = Uid × End} ends (u, e) → P u) →
     AllByRecursion (λ (e : Uid × End). P e.0) ends
 all_ends P [] each = tt
 all_ends P (e ∷ ends) each = (
@@ -284,10 +284,10 @@ module _ (hd : Header) (st : Start) (q : Past) (e : Event) (w : World) (shown : 
 -- ---- runs
 
 -- which stops are to fall is nothing to it
-armed_shown : (hd : Header) (w : World) (arms : List (ℕ × Arm)) → IsShown hd w → IsShown hd (record w { arms = arms })
+pub armed_shown : (hd : Header) (w : World) (arms : List (ℕ × Arm)) → IsShown hd w → IsShown hd (record w { arms = arms })
 armed_shown hd w arms h = record { known = arms_hold hd Base arms w h.known; shown = h.shown; early = h.early }
 
-least : (n : ℕ) → n ≤ n
+pub least : (n : ℕ) → n ≤ n
 least n = omega arith
 
 -- as an event comes no node started in it
@@ -295,7 +295,7 @@ early_anew : (hd : Header) (w : World) → IsShown hd w → (g : History) (sent 
 early_anew hd w b g sent r j n t there its new = absurd (cc (sym (later_off (up_of j w.lines) w.event (b.early j)) ∙ new))
 
 -- what is known of worlds: tables show locks between events
-abbrev shown_knows : (hd : Header) → Knows hd (Known hd)
+abbrev pub shown_knows : (hd : Header) → Knows hd (Known hd)
 shown_knows hd = record {
   Between = IsShown hd;
   In = λ w M. Known hd M × (Wide (Showing hd (length w.lines) (w.event + 1)) M × IsAnew (w.event + 1) M);
@@ -340,7 +340,7 @@ fewer_so test all some to h (b ∷ bs) passed =
     one false other passed = refl
     one true its passed = (λ i. not (sym (to b its) i) || test h b) ∙ passed
 
-fewer_along : (test : Here → Body → Bool) (all some : Body → Bool) → ((b : Body) → some b ≡ true → all b ≡ true) → (hd : Header) →
+pub fewer_along : (test : Here → Body → Bool) (all some : Body → Bool) → ((b : Body) → some b ≡ true → all b ≡ true) → (hd : Header) →
     (es : List Event) (p end : Past) → Along (TestedStep test (λ h. all) hd) p es end → Along (TestedStep test (λ h. some) hd) p es end
 fewer_along test all some to hd [] p end a = a
 fewer_along test all some to hd (e ∷ es) p end a =

@@ -10,6 +10,7 @@ use Rattle.arj_law_cause.proofs.kinds.Limit.{limit_row}
 use Rattle.arj_law_cause.proofs.kinds.Openings.{opening_row}
 use Rattle.arj_law_cause.proofs.kinds.Quiet.{quiet_row}
 use Rattle.arj_law_cause.proofs.kinds.Recovered.{found_row}
+use Rattle.arj_law_cause.proofs.kinds.Granted.{granted_row}
 use Rattle.arj_law_cause.proofs.kinds.Served.{served_row}
 use Rattle.arj_law_cause.proofs.kinds.Shown.{copy_row, entry_row}
 use Rattle.arj_law_cause.proofs.kinds.Up.{up_row}
@@ -39,6 +40,7 @@ module _ (hd : Header) (r : Run hd) (form : IsInForm hd r) where
     undone = abort_row hd r form;
     told = told_row hd r form;
     served = served_row hd r form;
+    granted = granted_row hd r form;
   }
 
   world_told : TellsWorld hd r.start (run_events hd r) (journal_by hd r)

@@ -1,11 +1,12 @@
 -- Which lines each row of causes is of.
-use Rattle.std.specs.Prelude.{Bool, true, false}
+use Rattle.std.specs.Prelude.{Bool, true, false, not}
 use Rattle.arj_journal.specs.declared.body.Body.{Body}
 use Rattle.arj_journal.specs.declared.body.Body.TheVariants as body
 use Rattle.arj_journal.specs.declared.body.Part.TheVariants as part
 use Rattle.arj_journal.specs.declared.body.Cause.TheVariants as cause
 use Rattle.arj_base.specs.declared.mode.End.TheVariants as ending
 use Rattle.arj_model.specs.CauseSpans.{Here}
+use Rattle.arj_model.specs.Table.{is_entry}
 use Rattle.arj_law_runs.specs.follow.Refusals.{is_plain_cause}
 
 -- a frame was sent
@@ -96,6 +97,11 @@ is_told _ = false
 abbrev pub is_told_by_server : Body → Bool
 is_told_by_server (body.Told n u e part.Server) = true
 is_told_by_server _ = false
+
+-- a lock on an object was granted
+abbrev pub is_granted_object : Body → Bool
+is_granted_object (body.Granted n u o m) = not (is_entry o)
+is_granted_object _ = false
 
 -- the line shows an object's entry
 abbrev pub is_entry_shown : Body → Bool

@@ -1,20 +1,33 @@
 -- What lines of some kinds say is so: parts of causes, and causes that count from where the run began.
 use Rattle.std.specs.Prelude.{List, drop, take, Bool, true, ◌==◌, ◌&&◌, ◌||◌, not}
+use Rattle.std.specs.Prelude.{is_none}
 use Rattle.std.specs.List.{list_any}
+use Rattle.arj_base.specs.Rows.{first_conflict}
 use Rattle.arj_journal.specs.declared.body.Body.{Body}
 use Rattle.arj_journal.specs.declared.body.Body.TheVariants as body
 use Rattle.arj_journal.specs.declared.body.Line.{Line}
-use Rattle.arj_model.specs.CauseLocks.{has_end_of}
+use Rattle.arj_model.specs.Actions.{acts, path, uids}
+use Rattle.arj_model.specs.CauseAnswers.{has_lock}
+use Rattle.arj_model.specs.CauseLocks.{has_end_of, is_restart}
 use Rattle.arj_model.specs.CauseNodes.{is_state, shows_object}
 use Rattle.arj_model.specs.CauseSpans.{Here, act_by, holds_in}
 use Rattle.arj_model.specs.Last.{entry_from, is_among, last_from, listed, object_line, same_list, servers_of_line}
 use Rattle.arj_model.specs.Refusals.{is_down}
+use Rattle.arj_model.specs.Table.{table}
 use Rattle.arj_law_cause.specs.kinds.Kinds.{is_entry_shown}
 
 -- `told`. The action ended so, by the lines before.
 abbrev pub is_told_so : Here → Body → Bool
 is_told_so h (body.Told n u e p) = holds_in (λ a. has_end_of h.lines a e) (act_by h.lines u)
 is_told_so h _ = true
+
+-- `granted`, of a lock on an object, but in a restart: the action began, has no such lock at the node by the table, and its path meets none
+-- there.
+abbrev pub is_granted_so : Here → Body → Bool
+is_granted_so h (body.Granted n u o m) =
+    is_restart h.event || holds_in (λ a. not (has_lock n u o m h.lines)
+    && is_none (first_conflict (uids (path (acts h.lines) a.label)) o m (table n h.lines))) (act_by h.lines u)
+is_granted_so h _ = true
 
 -- `entry`. The event shows the object, and its entry is as the lines before the event say, counted from where the run began.
 abbrev pub is_entry_so : Here → Body → Bool

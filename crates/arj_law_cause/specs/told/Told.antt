@@ -8,10 +8,10 @@ use Rattle.arj_journal.specs.declared.header.Header.{Header}
 use Rattle.arj_model.specs.Follows.{Follows, Runs}
 use Rattle.arj_start.specs.Start.{Start}
 use Rattle.arj_law_cause.specs.kinds.Kinds.{is_abort_done, is_armed, is_commit_done, is_copy_shown, is_dropped, is_entry_shown}
-use Rattle.arj_law_cause.specs.kinds.Kinds.{is_found, is_got, is_halted, is_limit, is_opening, is_quiet, is_sent, is_told}
+use Rattle.arj_law_cause.specs.kinds.Kinds.{is_found, is_got, is_granted_object, is_halted, is_limit, is_opening, is_quiet, is_sent, is_told}
 use Rattle.arj_law_cause.specs.kinds.Kinds.{is_told_by_server, is_up, is_void}
 use Rattle.arj_law_cause.specs.kinds.Rows.{RowStep, TestedStep}
-use Rattle.arj_law_cause.specs.kinds.Tests.{is_copy_so, is_entry_so, is_told_so}
+use Rattle.arj_law_cause.specs.kinds.Tests.{is_copy_so, is_entry_so, is_granted_so, is_told_so}
 use Rattle.arj_law_cause.specs.rows.Lines.{AnswersStep}
 use Rattle.arj_law_cause.specs.waits.replies.Ends.{RepliesStep}
 
@@ -53,6 +53,8 @@ pub record TellsNodes (hd : Header) (st : Start) (es : List Event) (journal : Li
   pub told : Runs (TestedStep is_told_so (λ h. is_told) hd) st es journal
   -- and a server that says so has a lock of it
   pub served : HaveCauses is_told_by_server hd st es journal
+  -- a lock on an object is granted, but in a restart, to an action that has none such there, and whose path meets none
+  pub granted : Runs (TestedStep is_granted_so (λ h. is_granted_object) hd) st es journal
 
 -- What goes between nodes, and when a run rests.
 pub record TellsWorld (hd : Header) (st : Start) (es : List Event) (journal : List Line) : Type 0 where
