@@ -1,7 +1,7 @@
 -- What each field of a journal's causes, and of its form, refuses: a line of an event behind those before it, and lines of whole runs that are changed.
 use Rattle.std.specs.Prelude.{◌≡◌, ◌<◌, ◌^◌, refl, ℕ, List, [], ◌∷◌, Bool, codes}
 use Rattle.std.proofs.Common.{arith}
-use Rattle.arj_base.specs.declared.mode.Mode.TheVariants.{Exclude, Write}
+use Rattle.arj_base.specs.declared.mode.Mode.TheVariants.{Exclude, Read, Write}
 use Rattle.arj_base.specs.declared.mode.End.TheVariants.{Commit}
 use Rattle.arj_class.specs.declared.op.Op.TheVariants as op
 use Rattle.arj_journal.specs.declared.body.Body.{Body}
@@ -15,8 +15,9 @@ use Rattle.arj_model.specs.CauseSpans.{Here}
 use Rattle.arj_model.specs.Past.{Past, nothing_yet}
 use Rattle.arj_law_cause.specs.form.Form.{AreInForm}
 use Rattle.arj_law_cause.specs.kinds.Kinds.{is_armed, is_commit_done, is_dropped, is_found, is_got, is_halted, is_limit, is_opening}
-use Rattle.arj_law_cause.specs.kinds.Kinds.{is_quiet, is_sent, is_up, is_void}
-use Rattle.arj_law_cause.specs.kinds.Rows.{row}
+use Rattle.arj_law_cause.specs.kinds.Kinds.{is_granted_object, is_quiet, is_sent, is_up, is_void}
+use Rattle.arj_law_cause.specs.kinds.Rows.{row, tested}
+use Rattle.arj_law_cause.specs.kinds.Tests.{is_granted_so}
 use Rattle.arj_law_cause.specs.rows.Lines.{answer_fits}
 use Rattle.arj_law_cause.specs.waits.replies.Ends.{RepliesStep}
 use Rattle.arj_cause_tests.proofs.Words.{Run, after, b, end_from, instead, l, of_other_event, run, u, without}
@@ -95,6 +96,16 @@ halted = refl
 -- `up`: no greater incarnation
 up : failing_of is_up (instead 48 (body.Up 1 1) naming_stopped) ≡ 48 ∷ []
 up = refl
+
+-- `granted`: once more, to an action that didn't begin, and against another one's lock
+granted_again : failing (tested is_granted_so (λ h. is_granted_object)) (after 18 (body.Granted 2 (u 2 1 1) (u 0 0 1) Write ∷ []) conflict_pending) ≡ 19 ∷ []
+granted_again = refl
+
+granted_early : failing (tested is_granted_so (λ h. is_granted_object)) (after 18 (body.Granted 2 (u 3 1 1) (u 0 0 1) Write ∷ []) conflict_pending) ≡ 19 ∷ []
+granted_early = refl
+
+granted_against : failing (tested is_granted_so (λ h. is_granted_object)) (after 29 (body.Granted 2 (u 3 1 1) (u 0 0 1) Read ∷ []) conflict_pending) ≡ 30 ∷ []
+granted_against = refl
 
 -- `found`: in no restart
 found : failing_of is_found (after 24 (body.Recovered 1 (u 1 1 1) ∷ []) stop_at_decision_done) ≡ 25 ∷ []

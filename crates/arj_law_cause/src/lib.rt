@@ -27,9 +27,9 @@ mod written;
 pub use answers::{answers_are_of_their_operations, answers_have_causes};
 pub use causes::{
     commits_done_have_causes, denials_have_causes, ends_have_causes, frame_lines_have_causes,
-    limits_have_causes, openings_have_causes, plain_refusals_have_causes, quiesces_have_causes,
-    recoveries_have_causes, restarts_have_causes, shows_have_causes, stops_have_causes,
-    told_servers_have_causes,
+    limits_have_causes, locks_on_objects_are_free, openings_have_causes,
+    plain_refusals_have_causes, quiesces_have_causes, recoveries_have_causes, restarts_have_causes,
+    shows_have_causes, stops_have_causes, told_servers_have_causes,
 };
 pub use form::journals_are_in_form;
 pub use messages::messages_can_be_spelled;
