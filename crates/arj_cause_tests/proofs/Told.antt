@@ -20,7 +20,7 @@ use Rattle.arj_law_cause.specs.kinds.Rows.{row, tested}
 use Rattle.arj_law_cause.specs.kinds.Tests.{is_granted_so}
 use Rattle.arj_law_cause.specs.rows.Lines.{answer_fits}
 use Rattle.arj_law_cause.specs.waits.replies.Ends.{RepliesStep}
-use Rattle.arj_cause_tests.proofs.Words.{Run, after, b, end_from, instead, l, of_other_event, run, u, without}
+use Rattle.arj_cause_tests.proofs.Words.{Run, after, end_from, instead, l, of_other_event, run, u, without}
 use Rattle.arj_cause_tests.proofs.Worked.{conflict, exclusion, inclusion, naming_stopped, nested_abort, rebinding, stop_at_decision_done}
 use Rattle.arj_cause_tests.proofs.Rare.{changed_bind_naming}
 use Rattle.arj_cause_tests.proofs.Rarer.{conflict_pending}
