@@ -291,7 +291,7 @@ pub least : (n : ℕ) → n ≤ n
 least n = omega arith
 
 -- as an event comes no node started in it
-early_anew : (hd : Header) (w : World) → IsShown hd w → (g : History) (sent : List Post) → IsAnew (w.event + 1) (look g sent (counted w))
+pub early_anew : (hd : Header) (w : World) → IsShown hd w → (g : History) (sent : List Post) → IsAnew (w.event + 1) (look g sent (counted w))
 early_anew hd w b g sent r j n t there its new = absurd (cc (sym (later_off (up_of j w.lines) w.event (b.early j)) ∙ new))
 
 -- what is known of worlds: tables show locks between events
