@@ -1,5 +1,5 @@
 -- Commits that were called, Prepares that were sent, and the last delivered frame, line by line.
-use Rattle.std.specs.Prelude.{ℕ, List, [], ◌∷◌, ◌++◌, map, Bool, true, false, ◌==◌, ◌&&◌, nat_le, nat_lt, if◌then◌else◌, Option, Some, None}
+use Rattle.std.specs.Prelude.{ℕ, List, [], ◌∷◌, ◌++◌, map, Bool, true, ◌==◌, ◌&&◌, nat_le, nat_lt, if◌then◌else◌, Option, Some, None}
 use Rattle.std.specs.List.{cons_option}
 use Rattle.std.specs.Option.{option_map}
 use Rattle.std.specs.Str.{bytes_eq}
@@ -14,11 +14,6 @@ use Rattle.arj_model.specs.Actions.{Act, path, top_in}
 use Rattle.arj_pending.specs.declared.kept.Commit.{Commit}
 use Rattle.arj_pending.specs.declared.kept.Delivery.{Delivery}
 use Rattle.arj_pending.specs.declared.kept.Prepare.{Prepare}
-
--- the commit isn't over
-abbrev pub is_open : Option ℕ → Bool
-is_open None = true
-is_open (Some at) = false
 
 -- it is over at this place, if it wasn't before
 abbrev pub over_at : ℕ → Option ℕ → Option ℕ
