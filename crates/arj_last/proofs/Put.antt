@@ -1,6 +1,5 @@
 -- Items under numbers, with one more.
-use Rattle.std.proofs.Common.{◌≡◌, ℕ, List, [], ◌∷◌, ◌++◌, Bool, true, false, cond, ◌==◌, Option, Some, None, refl, sym, ◌∙◌, ap}
-use Rattle.std.proofs.Common.{append-nil}
+use Rattle.std.proofs.Common.{◌≡◌, ℕ, List, [], ◌∷◌, ◌++◌, Bool, true, false, cond, ◌==◌, Option, Some, None, refl, ◌∙◌, ap}
 use Rattle.std.specs.BTreeMap.{BTreeMap, get}
 use Rattle.std.specs.Ordering.{nat_cmp}
 use Rattle.std.specs.Global.{Vec}
@@ -19,13 +18,3 @@ one_put x item old mid new taken own is has others put y = ap items_or_none (put
         items_or_none (cond b (Some own) (get nat_cmp mid y)) ≡ cond b (items_of old y ++ item ∷ []) (items_of old y)
     by true e = has ∙ ap (λ items. items ++ item ∷ []) (is ∙ ap (items_of old) (eqb-true x y e))
     by false e = others y e
-
--- one item behind others, where a test holds
-pub behind_if : {A : Type 0} (b : Bool) (old : List A) (item : A) → cond b (old ++ item ∷ []) old ≡ old ++ cond b (item ∷ []) []
-behind_if true old item = refl
-behind_if false old item = sym (append-nil old)
-
--- nothing behind others
-pub behind_none : {A : Type 0} (b : Bool) (old : List A) → old ≡ old ++ cond b [] []
-behind_none true old = sym (append-nil old)
-behind_none false old = sym (append-nil old)

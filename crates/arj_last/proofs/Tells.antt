@@ -71,14 +71,6 @@ root_is : (n : ℕ) (p : List Act) → root_number n (links p) ≡ root_or n (ro
 root_is n [] = refl
 root_is n (a ∷ p) = refl
 
--- of a path without a top nothing is told
-pub no_top : (lines : List Line) (p : List Act) (x : ℕ) → top_link (links p) ≡ None → is_told_of lines p x (top_in p) ≡ false
-no_top lines p x e = by (top_in p) (sym (top_is p) ∙ e)
-  where
-    by : (o : Option Act) → option_map link o ≡ None → is_told_of lines p x o ≡ false
-    by None g = refl
-    by (Some t) g = absurd (cc g)
-
 -- what is told of the top of a path, by what is kept
 pub its_top : (lines : List Line) (c : Changes) → AreKept lines c → (p : List Act) (x : ℕ) (top : Link) → top_link (links p) ≡ Some top
     → is_told_of lines p x (top_in p) ≡ ((is_ended c top.id || is_found c top.uid) && (not (root_number top.id
