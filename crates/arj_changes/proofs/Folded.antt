@@ -135,10 +135,6 @@ step_more lines x first ts t old new f s = record {
     last true = ap (changer_from (acts lines) nobody) (sym (append-nil before))
     last false = sym (last_of_append (acts lines) nobody before t)
 
-pub nothing_yet : (lines : List Line) (x : ℕ) (first : List ℕ) (e : EntryState) → e.stores.items ≡ first → e.version ≡ 0 →
-    e.writer ≡ nobody → IsFolded lines x first [] e
-nothing_yet lines x first e s v w = record { stores = s; version = v; writer = w }
-
 -- what a step makes, by what is kept
 pub stores_step : (lines : List Line) (c : Changes) → AreKept lines c → (x : ℕ) (stores : List ℕ) (t : Top) →
     stores_after stores (left_by c t.id x) (joined_by c t.id x) ≡ listed_after lines x stores t

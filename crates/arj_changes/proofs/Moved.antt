@@ -1,5 +1,5 @@
 -- What a top moves, by what is kept of exclusions and includes.
-use Rattle.std.proofs.Common.{◌≡◌, ◌<◌, ℕ, suc, ◌+◌, List, [], ◌∷◌, ◌++◌, length, map, take, drop, get_or, Bool, true, false, cond, ◌&&◌}
+use Rattle.std.proofs.Common.{◌≡◌, ℕ, suc, ◌+◌, List, [], ◌∷◌, ◌++◌, map, take, drop, Bool, true, false, cond, ◌&&◌}
 use Rattle.std.proofs.Common.{◌||◌, ◌==◌, nat_lt, Option, Some, None, refl, sym, ◌∙◌, ap, arith}
 use Rattle.std.specs.Prelude.{filter, slice_get}
 use Rattle.std.specs.List.{cons_option, filter_map, list_all, list_any}
@@ -7,8 +7,6 @@ use Rattle.std.specs.Option.{option_map}
 use Rattle.std.proofs.lemmas.Bool.{eq-eqb, eqb-true}
 use Rattle.std.proofs.lemmas.Bool.Decides.{nat_tests}
 use Rattle.std.proofs.lemmas.List.Folds.{list_all-map}
-use Rattle.std.proofs.lemmas.List.Elements.{filter-append, filter_map-append}
-use Rattle.arj_standing.proofs.Filters.{take_next}
 use Rattle.arj_journal.specs.declared.body.Line.{Line}
 use Rattle.arj_law.proofs.Common.{never}
 use Rattle.arj_model.specs.Actions.{Act, Placed, chain_in, committed, has_end, top_in}
@@ -115,13 +113,3 @@ number_put n (m ∷ ms) e = by (number_put n ms) (n == m) refl (nat_lt n m) refl
         let k = leading (λ j. nat_lt j n) ms in
         ap (λ xs. m ∷ xs) (ih (λ e. g ((λ i. slice_get (m ∷ ms) (sym (one_more k) i)) ∙ e))) ∙ (λ i. take (one_more k i) (m ∷ ms) ++ n ∷ drop (one_more k i) (m ∷ ms))
     by ih false same false lt false more g = let is : (n == m) ≡ true = grind (arith, nat_tests, lt, more) in never (n == m) is same
-
--- what is found of the items so far, with the next one
-pub next_found : {A : Type 0} (f : A → Option ℕ) (xs : List A) (i : ℕ) (x : A) → i < length xs → x ≡ get_or xs i x →
-    filter_map f (take (i + 1) xs) ≡ filter_map f (take i xs) ++ cons_option (f x) []
-next_found f xs i x lt is = ap (filter_map f) (take_next xs i x lt is) ∙ filter_map-append f (take i xs) (x ∷ [])
-
--- those that pass a test, with the next one
-pub next_passed : {A : Type 0} (p : A → Bool) (xs : List A) (i : ℕ) (x : A) → i < length xs → x ≡ get_or xs i x →
-    filter p (take (i + 1) xs) ≡ filter p (take i xs) ++ cond (p x) (x ∷ []) []
-next_passed p xs i x lt is = ap (filter p) (take_next xs i x lt is) ∙ filter-append p (take i xs) (x ∷ [])
