@@ -44,7 +44,7 @@ object_test false header lines disks x sure is no_stores = λ h. no_stores (h su
 -- ---- all objects
 
 -- an object of the header is one of its lines'
-line_among : (x : ℕ) (os : List ObjectLine) (P : ℕ → Type 0) → AllByRecursion (λ o. P o.x) os → is_some (find (λ p. p.x == x) os) ≡ true → P x
+pub line_among : (x : ℕ) (os : List ObjectLine) (P : ℕ → Type 0) → AllByRecursion (λ o. P o.x) os → is_some (find (λ p. p.x == x) os) ≡ true → P x
 line_among x [] P h e = absurd (cc e)
 line_among x (o ∷ os) P h e = by (o.x == x) refl (line_among x os P h.1) e
   where

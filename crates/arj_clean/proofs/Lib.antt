@@ -1,4 +1,4 @@
 mod Bytes
-mod Held
+pub mod Held
 mod Payloads
-mod Taken
+pub mod Taken

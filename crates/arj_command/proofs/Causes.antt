@@ -13,7 +13,6 @@ use Rattle.arj_law_cause.specs.told.Told.{TellsItsCauses}
 use Rattle.arj_law_nodes.specs.nodes.Promised.{IsOfRun, event_of}
 use Rattle.arj_law_nodes.specs.nodes.Readings.{Reads}
 use Rattle.arj_law_nodes.specs.nodes.Turns.{HasMoved, IsTaskInForm, NodesMove}
-use Rattle.arj_law_promise.specs.rooms.Actions.{FreshHasIncs}
 use Rattle.arj_law_runs.specs.follow.Frames.{run_events}
 use Rattle.arj_nodes.specs.AllNodes.{RanAll, Task}
 use Rattle.arj_promise.specs.Runs.{AreMovesInForm, Move, from_format, journal_by, most_events}
@@ -41,11 +40,10 @@ pub record Laws {C D : Type 0} (c : core.Ghosts C) (d : disk.Ghosts D) : Type 0 
   pub moves : NodesMove c d
   pub tells : JournalsTell
   pub forms : RunsAreInForm
-  pub incs : FreshHasIncs
 
 -- the laws, of these
-pub laws_by : {C D : Type 0} {c : core.Ghosts C} {d : disk.Ghosts D} → NodesMove c d → JournalsTell → RunsAreInForm → FreshHasIncs → Laws c d
-laws_by moves tells forms incs = record { moves = moves; tells = tells; forms = forms; incs = incs }
+pub laws_by : {C D : Type 0} {c : core.Ghosts C} {d : disk.Ghosts D} → NodesMove c d → JournalsTell → RunsAreInForm → Laws c d
+laws_by moves tells forms = record { moves = moves; tells = tells; forms = forms }
 
 module _ {C D : Type 0} (c : core.Ghosts C) (d : disk.Ghosts D) (laws : Laws c d) (t : Task D) where
   -- all of its events were run
@@ -67,4 +65,4 @@ module _ {C D : Type 0} (c : core.Ghosts C) (d : disk.Ghosts D) (laws : Laws c d
 
     pub forms_of : AreInForm now.journal
     forms_of =
-        let h = moved in subst AreInForm (sym h.journal) (laws.forms t.header (from_format t.header h.moves) h.form laws.incs)
+        let h = moved in subst AreInForm (sym h.journal) (laws.forms t.header (from_format t.header h.moves) h.form)

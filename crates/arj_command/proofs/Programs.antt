@@ -6,7 +6,7 @@ use Rattle.std.proofs.Math.Seq.{take-length}
 use Rattle.std.specs.declared.alloc.Global.{Global}
 use Rattle.arj_command.proofs.Causes.{Laws}
 use Rattle.arj_command.proofs.Shows.{behind_none, facts_of}
-use Rattle.arj_command.specs.Command.{IsCheck, IsProgram, IsReplay, NamesBank}
+use Rattle.arj_command.specs.Command.{IsAudit, IsCheck, IsProgram, IsReplay, NamesBank}
 use Rattle.arj_command.specs.Facts.{Facts, behind}
 use Rattle.arj_command.specs.Outcome.{Said, around, world_of}
 use Rattle.arj_command.specs.Programs.{ProgramsHeadline}
@@ -56,6 +56,28 @@ pub not_program_check : (words : List (String Global)) → IsCheck words → IsP
 not_program_check [] check program = check
 not_program_check (word ∷ []) check program = omega (arith, ap (λ bs. get_or bs 0 0) (sym check ∙ program))
 not_program_check (word ∷ more ∷ words) check program = check
+
+-- `audit` is one word, and another than the other three
+pub not_audit_bank : (words : List (String Global)) (text : List ℕ) → NamesBank words text → IsAudit words → ⊥
+not_audit_bank [] text names is = names
+not_audit_bank (word ∷ []) text names is = names
+not_audit_bank (word ∷ number ∷ []) text names is = is
+not_audit_bank (word ∷ number ∷ more ∷ words) text names is = names
+
+pub not_audit_replay : (words : List (String Global)) → IsReplay words → IsAudit words → ⊥
+not_audit_replay [] replay audit = replay
+not_audit_replay (word ∷ []) replay audit = omega (arith, ap (λ bs. get_or bs 0 0) (sym replay ∙ audit))
+not_audit_replay (word ∷ more ∷ words) replay audit = replay
+
+pub not_audit_check : (words : List (String Global)) → IsCheck words → IsAudit words → ⊥
+not_audit_check [] check audit = check
+not_audit_check (word ∷ []) check audit = omega (arith, ap (λ bs. get_or bs 0 0) (sym check ∙ audit))
+not_audit_check (word ∷ more ∷ words) check audit = check
+
+pub not_audit_program : (words : List (String Global)) → IsProgram words → IsAudit words → ⊥
+not_audit_program [] program audit = program
+not_audit_program (word ∷ []) program audit = omega (arith, ap (λ bs. get_or bs 0 0) (sym program ∙ audit))
+not_audit_program (word ∷ more ∷ words) program audit = program
 
 -- ---- what is shown
 

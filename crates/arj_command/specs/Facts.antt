@@ -36,7 +36,7 @@ pub record Facts {C D : Type 0} (c : core.Ghosts C) (d : disk.Ghosts D) (read : 
   pub promise : ShowsThePromise d read t (let n = now.nodes in n.over) now.journal now.rack
   -- these lines say why they are so, by the header, the events and themselves alone
   pub causes : (let a = t in TellsItsCauses a.header fresh a.events lines)
-  -- each of them is in form, but for those of kinds that are named
+  -- each of them is in form
   pub form : AreInForm lines
   -- each `halted` line has its cause
   pub halts : HaltsHaveCause d t now.journal now.rack

@@ -3,8 +3,9 @@ ghost use Rattle.std.specs.Prelude.{◌≡◌, ◌≢◌, ◌≤◌, ◌⊎◌, 
 ghost use Rattle.arj_bank.specs.Balances.{held_by, reader};
 ghost use Rattle.arj_bank.specs.Bank.{Generates};
 ghost use Rattle.arj_base.specs.Count.{Rose};
+ghost use Rattle.arj_auditing.specs.Audits.{Audits};
 ghost use Rattle.arj_checking.specs.Checks.{Checks, ends};
-ghost use Rattle.arj_command.specs.Command.{IsCheck, IsCommand, IsGenerate, IsProgram, IsReplay};
+ghost use Rattle.arj_command.specs.Command.{IsAudit, IsCheck, IsCommand, IsGenerate, IsProgram, IsReplay};
 ghost use Rattle.arj_command.specs.Outcome.{BankHeadline, Headline, Shown, around, said, world_of};
 ghost use Rattle.arj_command.specs.Programs.{ProgramsHeadline};
 ghost use Rattle.arj_loop.specs.Replayed.{Closes, StopsShort, answer, outside};
@@ -15,6 +16,7 @@ ghost use Rattle.arj_law_nodes.specs.nodes.Readings.{Reads, reading_of};
 ghost use Rattle.arj_programs.specs.Outcome.{RunsPrograms};
 
 use crate::words::{Command, asked_for};
+use arj_auditing::audited;
 use arj_bank::generated;
 use arj_checking::{Finding, checked};
 use arj_core::Core;
@@ -64,7 +66,10 @@ fn run_command<S: Source, K: Sink, D: Disk, O: ObjectStore, C: Core + Drop>(
     ensures programs { IsProgram words.now → RunsPrograms (all_nodes C.Core D.Disk) (outside (S.left source.old) (S.faults source.old) (K.taken sink.old) rack.old) (outside (S.left source.new) (S.faults source.new) (K.taken sink.new) rack.new) (answer result why.new journal.new nodes.new) }
     ensures checks { IsCheck words.now → Checks (ends (S.left source.old) (S.faults source.old) (K.taken sink.old)) (ends (S.left source.new) (S.faults source.new) (K.taken sink.new)) result found.new }
     ensures checks_alone { IsCheck words.now → (rack.new ≡ rack.old) × (journal.new ≡ journal.old) × (why.new ≡ why.old) × (nodes.new ≡ nodes.old) }
-    ensures only_check { (IsCheck words.now → ⊥) → (found.new ≡ found.old) × (result ≢ 8) }
+    ensures only_check { (IsCheck words.now → ⊥) → found.new ≡ found.old }
+    ensures audits { IsAudit words.now → Audits (ends (S.left source.old) (S.faults source.old) (K.taken sink.old)) (ends (S.left source.new) (S.faults source.new) (K.taken sink.new)) result }
+    ensures audits_alone { IsAudit words.now → (rack.new ≡ rack.old) × (journal.new ≡ journal.old) × (why.new ≡ why.old) × (nodes.new ≡ nodes.old) }
+    ensures only_judged { (IsCheck words.now → ⊥) → (IsAudit words.now → ⊥) → result ≢ 8 }
     ensures statuses { result ≤ 8 }
     ensures command { result ≡ 1 → IsCommand words.now → ⊥ }
     ensures no_command { (IsCommand words.now → ⊥) → result ≡ 1 }
@@ -83,6 +88,7 @@ fn run_command<S: Source, K: Sink, D: Disk, O: ObjectStore, C: Core + Drop>(
         Command::Program => run_programs::<S, K, D, AllNodes<C>>(
             alloc, source, sink, rack, journal, why, nodes,
         ),
+        Command::Audit => audited::<S, K>(alloc, source, sink),
         Command::None => 1,
     }
 }
@@ -110,7 +116,10 @@ pub fn run_on<S: Source, K: Sink, D: Disk, O: ObjectStore, C: Core + Drop>(
     ensures programs { (read : Reads) → SaysReadings C.Core read → IsProgram words.now → ProgramsHeadline C.Core D.Disk read (around (outside (S.left source.old) (S.faults source.old) (K.taken sink.old) rack.old) (outside (S.left source.new) (S.faults source.new) (K.taken sink.new) rack.new)) (said result why.new journal.new world.new) }
     ensures checks { IsCheck words.now → Checks (ends (S.left source.old) (S.faults source.old) (K.taken sink.old)) (ends (S.left source.new) (S.faults source.new) (K.taken sink.new)) result found.new }
     ensures checks_alone { IsCheck words.now → (rack.new ≡ rack.old) × (journal.new ≡ journal.old) × (why.new ≡ why.old) × (world.new ≡ world.old) }
-    ensures only_check { (IsCheck words.now → ⊥) → (found.new ≡ found.old) × (result ≢ 8) }
+    ensures only_check { (IsCheck words.now → ⊥) → found.new ≡ found.old }
+    ensures audits { IsAudit words.now → Audits (ends (S.left source.old) (S.faults source.old) (K.taken sink.old)) (ends (S.left source.new) (S.faults source.new) (K.taken sink.new)) result }
+    ensures audits_alone { IsAudit words.now → (rack.new ≡ rack.old) × (journal.new ≡ journal.old) × (why.new ≡ why.old) × (world.new ≡ world.old) }
+    ensures only_judged { (IsCheck words.now → ⊥) → (IsAudit words.now → ⊥) → result ≢ 8 }
     ensures statuses { result ≤ 8 }
     ensures command { result ≡ 1 → IsCommand words.now → ⊥ }
     ensures no_command { (IsCommand words.now → ⊥) → result ≡ 1 }

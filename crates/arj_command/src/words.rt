@@ -1,7 +1,7 @@
 // What the words of the command line ask for.
 ghost use Rattle.std.specs.Prelude.{◌≡◌, ◌<◌, ℕ, List, MatchBool, MatchOption};
 ghost use Rattle.std.specs.Fmt.{decimal};
-ghost use Rattle.arj_command.specs.Command.{IsCheck, IsPlain, IsProgram, IsReplay, NamesBank, Says, most_banks};
+ghost use Rattle.arj_command.specs.Command.{IsAudit, IsCheck, IsPlain, IsProgram, IsReplay, NamesBank, Says, most_banks};
 
 /// What is asked for.
 #[derive(Clone, Copy)]
@@ -14,6 +14,8 @@ pub enum Command {
     Check,
     /// Client programs are run.
     Program,
+    /// An image is audited.
+    Audit,
     /// Nothing: the words aren't a command line.
     None,
 }
@@ -85,6 +87,16 @@ fn is_program(words: &[String]) -> bool
     word.as_str() == "program"
 }
 
+// Whether it is the one word `audit`.
+fn is_audit(words: &[String]) -> bool
+    ensures { MatchBool result (IsAudit words.now) (IsAudit words.now → ⊥) }
+{
+    let [word] = words else {
+        return false;
+    };
+    word.as_str() == "audit"
+}
+
 /// What the words ask for.
 pub fn asked_for(words: &[String]) -> Command
     ensures { Says words.now result }
@@ -97,6 +109,9 @@ pub fn asked_for(words: &[String]) -> Command
     }
     if is_program(words) {
         return Command::Program;
+    }
+    if is_audit(words) {
+        return Command::Audit;
     }
     let Some(word) = bank_word(words) else {
         return Command::None;

@@ -3,8 +3,8 @@ mod Longer
 mod Tops
 mod Survive
 mod Sorted
-mod Counts
-mod Ends
+pub mod Counts
+pub mod Ends
 mod Cuts
 mod Tells
 mod Lines

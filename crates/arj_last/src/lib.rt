@@ -17,7 +17,9 @@ mod take;
 mod told;
 mod whole;
 
+pub use counting::{count, last_writer, places_of};
 pub use groups::items_at;
 pub use kept::{Write, Writes};
+pub use picked::{Wrote, writes_on};
 pub use state::{LastState, last_state_of};
 pub use whole::put_last_states;

@@ -5,6 +5,7 @@ ghost use Rattle.arj_journal.specs.declared.body.Body.{Body};
 use crate::checked::explain_found;
 use crate::forms::form_of;
 use crate::help::{help, usage};
+use crate::images::explain_audit;
 use crate::pieces::{piece_at, word_at};
 use crate::programs::{bad_programs, many_lines};
 use crate::refused::{count_of_refused, first_refused};
@@ -18,13 +19,14 @@ use arj_words::refusal_words;
 use std::alloc::Global;
 use std::io;
 
-/// What a run leaves, of which is told: its words, whether there are none, or they are a command and a file, or they are `program`; the
-/// input as far as it was read, where it is remembered; the journal; why a line is bad; and what was found of a journal that was checked.
+/// What a run leaves, of which is told: its words, whether there are none, or they are a command and a file, or they are `program` or `audit`;
+/// the input as far as it was read, where it is remembered; the journal; why a line is bad; and what was found of a journal that was checked.
 #[derive(Clone, Copy)]
 pub struct Ran<'a> {
     pub no_words: bool,
     pub gave_file: bool,
     pub programs: bool,
+    pub audits: bool,
     pub script: Option<&'a [u8]>,
     pub journal: &'a [Line],
     pub why: Option<BadLine>,
@@ -39,6 +41,8 @@ pub fn explain(rt: &impl Eprint, alloc: Global, status: u8, ran: &Ran) -> io::Re
         return explain_found(rt, alloc, found, ran.script);
     }
     match status {
+        2 | 6 | 8 if ran.audits => explain_audit(rt, status),
+        0 if ran.audits => Ok(()),
         0 if ran.programs => Ok(()),
         0 => refusals(rt, ran.journal),
         1 if ran.no_words => usage(rt),

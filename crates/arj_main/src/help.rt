@@ -11,7 +11,7 @@ pub fn help(rt: &impl Eprint, gave_file: bool) -> io::Result<()> {
     usage(rt)?;
     if gave_file {
         eprintln!(rt;
-            "`replay`, `program` and `check` take no file: the input comes on standard input, as in `arjuna replay < FILE`"
+            "`replay`, `program`, `check` and `audit` take no file: the input comes on standard input, as in `arjuna replay < FILE`"
         )?;
     }
     eprintln!(rt;
@@ -22,6 +22,9 @@ pub fn help(rt: &impl Eprint, gave_file: bool) -> io::Result<()> {
     )?;
     eprintln!(rt;
         "  arjuna program < PROGRAMS   runs client programs with retries by a seeded schedule, and writes what became of each"
+    )?;
+    eprintln!(rt;
+        "  arjuna audit < IMAGE     audits a stopped run, saved as text: is it serial, are its disks clean and quiet, can a run go on from it"
     )?;
     eprintln!(rt;
         "  arjuna generate N        runs the bank of the number N, from 0 to 4294967295, and writes its summary"

@@ -10,6 +10,7 @@ mod command;
 mod errors;
 mod forms;
 mod help;
+mod images;
 mod pieces;
 mod place;
 mod programs;

@@ -1,8 +1,9 @@
 // The top call.
 ghost use Rattle.std.specs.Prelude.{◌≡◌, ◌≢◌, ◌≤◌, ◌⊎◌, ℕ, [], None};
 ghost use Rattle.arj_base.specs.Count.{Rose};
+ghost use Rattle.arj_auditing.specs.Audits.{Audits};
 ghost use Rattle.arj_checking.specs.Checks.{Checks, ends};
-ghost use Rattle.arj_command.specs.Command.{IsCheck, IsCommand, IsGenerate, IsProgram, IsReplay};
+ghost use Rattle.arj_command.specs.Command.{IsAudit, IsCheck, IsCommand, IsGenerate, IsProgram, IsReplay};
 ghost use Rattle.arj_command.specs.Outcome.{BankHeadline, Headline, Shown, around, said};
 ghost use Rattle.arj_command.specs.Programs.{ProgramsHeadline};
 ghost use Rattle.arj_loop.specs.Replayed.{outside};
@@ -38,7 +39,7 @@ pub type Node = NodeCore<NodeParts<Store>>;
 /// bank was run and its summary written. 1: the words aren't a command line. 2: a line isn't in the grammar. 3: a read failed. 4: a write failed. 5: memory was wanting; a node answers so too
 /// where it can't spell a message, or restarts at the last incarnation that 32 bits count. 6: a limit was met. 7: a disk stopped while it
 /// was formatted, or while the bank's balances were read. 8: a journal that was checked can't be read as a run, or an answer in it differs;
-/// what was found of it is in `found`.
+/// what was found of it is in `found`; or no run can go on from an image that was audited.
 pub fn arjuna<S: Source, K: Sink, D: Disk>(
     alloc: Global,
     words: &[String],
@@ -69,7 +70,12 @@ pub fn arjuna<S: Source, K: Sink, D: Disk>(
     // The check of a journal: what each status means, what was written of it, and that it touches nothing else.
     ensures checks { IsCheck words.now → Checks (ends (S.left source.old) (S.faults source.old) (K.taken sink.old)) (ends (S.left source.new) (S.faults source.new) (K.taken sink.new)) result found.new }
     ensures checks_alone { IsCheck words.now → (rack.new ≡ rack.old) × (journal.new ≡ journal.old) × (why.new ≡ why.old) × (world.new ≡ world.old) }
-    ensures only_check { (IsCheck words.now → ⊥) → (found.new ≡ found.old) × (result ≢ 8) }
+    ensures only_check { (IsCheck words.now → ⊥) → found.new ≡ found.old }
+
+    // The audit of an image: what each status means, what was found and written of it, and that it touches nothing else.
+    ensures audits { IsAudit words.now → Audits (ends (S.left source.old) (S.faults source.old) (K.taken sink.old)) (ends (S.left source.new) (S.faults source.new) (K.taken sink.new)) result }
+    ensures audits_alone { IsAudit words.now → (rack.new ≡ rack.old) × (journal.new ≡ journal.old) × (why.new ≡ why.old) × (world.new ≡ world.old) }
+    ensures only_judged { (IsCheck words.now → ⊥) → (IsAudit words.now → ⊥) → result ≢ 8 }
 
     // Which status, where no record above says it: 5 alone is free.
     ensures statuses { result ≤ 8 }

@@ -19,6 +19,7 @@ fn main(rt: HostRuntime) -> ExitCode {
         no_words: false,
         gave_file: false,
         programs: false,
+        audits: false,
         script: None,
         journal: Lines::new(alloc),
         why: None,
@@ -34,6 +35,7 @@ fn main(rt: HostRuntime) -> ExitCode {
         no_words: left.no_words,
         gave_file: left.gave_file,
         programs: left.programs,
+        audits: left.audits,
         script: left.script.as_ref().map(|script| script.as_slice()),
         journal: left.journal.as_slice(),
         why: left.why,
@@ -46,7 +48,7 @@ fn main(rt: HostRuntime) -> ExitCode {
 
 // Whether a word is a command that stands alone.
 fn takes_no_word(word: &str) -> bool {
-    word == "replay" || word == "program" || word == "check"
+    word == "replay" || word == "program" || word == "check" || word == "audit"
 }
 
 // What the run leaves to be told of.
@@ -55,6 +57,7 @@ struct Left {
     no_words: bool,
     gave_file: bool,
     programs: bool,
+    audits: bool,
     script: Option<Bytes>,
     journal: Lines,
     why: Option<BadLine>,
@@ -71,6 +74,7 @@ fn run(rt: &HostRuntime, left: &mut Left) -> io::Result<u8>
     left.no_words = words.len() == 0;
     left.gave_file = words.len() == 2 && takes_no_word(words[0].as_str());
     left.programs = words.len() == 1 && words[0].as_str() == "program";
+    left.audits = words.len() == 1 && words[0].as_str() == "audit";
     let input = StdSource::new(BufReader::new(alloc, rt.reader())?);
     let mut source = Remembering::new(alloc, input);
     let mut sink = StdSink::new(io::writer(rt));

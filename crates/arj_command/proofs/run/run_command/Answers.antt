@@ -1,9 +1,9 @@
 -- a script, a check, a bank, or no command
 use Rattle.std.proofs.Common.{arith, inl, inr, ap, refl}
 use Rattle.arj_bank.specs.Balances.{held_by, reader}
-use Rattle.arj_command.specs.Command.{IsCheck, IsGenerate, IsProgram, IsReplay}
+use Rattle.arj_command.specs.Command.{IsAudit, IsCheck, IsGenerate, IsProgram, IsReplay}
 use Rattle.arj_command.proofs.Numbers.{generates_one, not_both, not_check, not_two}
-use Rattle.arj_command.proofs.Programs.{not_program_bank, not_program_check, not_program_replay}
+use Rattle.arj_command.proofs.Programs.{not_audit_bank, not_audit_check, not_audit_program, not_audit_replay, not_program_bank, not_program_check, not_program_replay}
 use Rattle.arj_command.proofs.Shows.{read_failed}
 use Rattle.arj_loop.specs.Replayed.{answer, outside}
 use Rattle.arj_nodes.specs.AsMachine.{all_nodes}
@@ -35,8 +35,16 @@ pub returns-in-Replay-clause-checks_alone : goal.returns-in-Replay-clause-checks
 returns-in-Replay-clause-checks_alone g c is =
     let says : IsReplay c.args.words.now = rw c.in-Replay.is at c.asked_for.ensures in absurd (not_two c.args.words.now says is)
 
-pub returns-in-Replay-clause-only_check : goal.returns-in-Replay-clause-only_check
-returns-in-Replay-clause-only_check g c other = (refl, λ e. let s = c.replay.ensures.statuses in omega (arith, e, s.0))
+pub returns-in-Replay-clause-only_judged : goal.returns-in-Replay-clause-only_judged
+returns-in-Replay-clause-only_judged g c _ _ e = let s = c.replay.ensures.statuses in omega (arith, e, s.0)
+
+pub returns-in-Replay-clause-audits : goal.returns-in-Replay-clause-audits
+returns-in-Replay-clause-audits g c is =
+    let says : IsReplay c.args.words.now = rw c.in-Replay.is at c.asked_for.ensures in absurd (not_audit_replay c.args.words.now says is)
+
+pub returns-in-Replay-clause-audits_alone : goal.returns-in-Replay-clause-audits_alone
+returns-in-Replay-clause-audits_alone g c is =
+    let says : IsReplay c.args.words.now = rw c.in-Replay.is at c.asked_for.ensures in absurd (not_audit_replay c.args.words.now says is)
 
 pub returns-in-Replay-clause-programs : goal.returns-in-Replay-clause-programs
 returns-in-Replay-clause-programs g c is =
@@ -70,8 +78,16 @@ pub returns-in-Program-clause-checks_alone : goal.returns-in-Program-clause-chec
 returns-in-Program-clause-checks_alone g c is =
     let says : IsProgram c.args.words.now = rw c.in-Program.is at c.asked_for.ensures in absurd (not_program_check c.args.words.now is says)
 
-pub returns-in-Program-clause-only_check : goal.returns-in-Program-clause-only_check
-returns-in-Program-clause-only_check g c other = (refl, λ e. let s = c.run_programs.ensures.statuses in omega (arith, e, s.0))
+pub returns-in-Program-clause-only_judged : goal.returns-in-Program-clause-only_judged
+returns-in-Program-clause-only_judged g c _ _ e = let s = c.run_programs.ensures.statuses in omega (arith, e, s.0)
+
+pub returns-in-Program-clause-audits : goal.returns-in-Program-clause-audits
+returns-in-Program-clause-audits g c is =
+    let says : IsProgram c.args.words.now = rw c.in-Program.is at c.asked_for.ensures in absurd (not_audit_program c.args.words.now says is)
+
+pub returns-in-Program-clause-audits_alone : goal.returns-in-Program-clause-audits_alone
+returns-in-Program-clause-audits_alone g c is =
+    let says : IsProgram c.args.words.now = rw c.in-Program.is at c.asked_for.ensures in absurd (not_audit_program c.args.words.now says is)
 
 pub returns-in-Program-clause-read_fault : goal.returns-in-Program-clause-read_fault
 returns-in-Program-clause-read_fault g c three = c.run_programs.ensures.read_fault three
@@ -101,12 +117,65 @@ pub returns-in-Check-clause-only_check : goal.returns-in-Check-clause-only_check
 returns-in-Check-clause-only_check g c other =
     let says : IsCheck c.args.words.now = rw c.in-Check.is at c.asked_for.ensures in absurd (other says)
 
+pub returns-in-Check-clause-only_judged : goal.returns-in-Check-clause-only_judged
+returns-in-Check-clause-only_judged g c other _ _ =
+    let says : IsCheck c.args.words.now = rw c.in-Check.is at c.asked_for.ensures in absurd (other says)
+
+pub returns-in-Check-clause-audits : goal.returns-in-Check-clause-audits
+returns-in-Check-clause-audits g c is =
+    let says : IsCheck c.args.words.now = rw c.in-Check.is at c.asked_for.ensures in absurd (not_audit_check c.args.words.now says is)
+
+pub returns-in-Check-clause-audits_alone : goal.returns-in-Check-clause-audits_alone
+returns-in-Check-clause-audits_alone g c is =
+    let says : IsCheck c.args.words.now = rw c.in-Check.is at c.asked_for.ensures in absurd (not_audit_check c.args.words.now says is)
+
 pub returns-in-Check-clause-read_fault : goal.returns-in-Check-clause-read_fault
 returns-in-Check-clause-read_fault g c three =
     let checks = c.checked.ensures.checks in
     let fault = checks.fault three in
     let cut = fault.0 in
     let reads = checks.reads in
+    reads.at_fault cut.0
+
+-- ---- an audit
+
+pub returns-in-Audit-clause-audits : goal.returns-in-Audit-clause-audits
+returns-in-Audit-clause-audits g c is = c.audited.ensures.audits
+
+pub returns-in-Audit-clause-only_judged : goal.returns-in-Audit-clause-only_judged
+returns-in-Audit-clause-only_judged g c _ other _ =
+    let says : IsAudit c.args.words.now = rw c.in-Audit.is at c.asked_for.ensures in absurd (other says)
+
+pub returns-in-Audit-clause-closes : goal.returns-in-Audit-clause-closes
+returns-in-Audit-clause-closes g c is _ _ =
+    let says : IsAudit c.args.words.now = rw c.in-Audit.is at c.asked_for.ensures in absurd (not_audit_replay c.args.words.now is says)
+
+pub returns-in-Audit-clause-short : goal.returns-in-Audit-clause-short
+returns-in-Audit-clause-short g c is _ =
+    let says : IsAudit c.args.words.now = rw c.in-Audit.is at c.asked_for.ensures in absurd (not_audit_replay c.args.words.now is says)
+
+pub returns-in-Audit-clause-generates : goal.returns-in-Audit-clause-generates
+returns-in-Audit-clause-generates g c n is =
+    let says : IsAudit c.args.words.now = rw c.in-Audit.is at c.asked_for.ensures in absurd (not_audit_bank c.args.words.now _ is.1 says)
+
+pub returns-in-Audit-clause-programs : goal.returns-in-Audit-clause-programs
+returns-in-Audit-clause-programs g c is =
+    let says : IsAudit c.args.words.now = rw c.in-Audit.is at c.asked_for.ensures in absurd (not_audit_program c.args.words.now is says)
+
+pub returns-in-Audit-clause-checks : goal.returns-in-Audit-clause-checks
+returns-in-Audit-clause-checks g c is =
+    let says : IsAudit c.args.words.now = rw c.in-Audit.is at c.asked_for.ensures in absurd (not_audit_check c.args.words.now is says)
+
+pub returns-in-Audit-clause-checks_alone : goal.returns-in-Audit-clause-checks_alone
+returns-in-Audit-clause-checks_alone g c is =
+    let says : IsAudit c.args.words.now = rw c.in-Audit.is at c.asked_for.ensures in absurd (not_audit_check c.args.words.now is says)
+
+pub returns-in-Audit-clause-read_fault : goal.returns-in-Audit-clause-read_fault
+returns-in-Audit-clause-read_fault g c three =
+    let audits = c.audited.ensures.audits in
+    let fault = audits.fault three in
+    let cut = fault.0 in
+    let reads = audits.reads in
     reads.at_fault cut.0
 
 -- ---- a bank
@@ -154,8 +223,18 @@ returns-in-Bank-clause-checks_alone g c is =
     let says : IsGenerate c.args.words.now c.in-Bank.n =
     rw c.in-Bank.is at c.asked_for.ensures in absurd (not_check c.args.words.now _ says.1 is)
 
-pub returns-in-Bank-clause-only_check : goal.returns-in-Bank-clause-only_check
-returns-in-Bank-clause-only_check g c other = (refl, λ e. let s = c.generated.ensures.statuses in omega (arith, e, s.0))
+pub returns-in-Bank-clause-only_judged : goal.returns-in-Bank-clause-only_judged
+returns-in-Bank-clause-only_judged g c _ _ e = let s = c.generated.ensures.statuses in omega (arith, e, s.0)
+
+pub returns-in-Bank-clause-audits : goal.returns-in-Bank-clause-audits
+returns-in-Bank-clause-audits g c is =
+    let says : IsGenerate c.args.words.now c.in-Bank.n =
+    rw c.in-Bank.is at c.asked_for.ensures in absurd (not_audit_bank c.args.words.now _ says.1 is)
+
+pub returns-in-Bank-clause-audits_alone : goal.returns-in-Bank-clause-audits_alone
+returns-in-Bank-clause-audits_alone g c is =
+    let says : IsGenerate c.args.words.now c.in-Bank.n =
+    rw c.in-Bank.is at c.asked_for.ensures in absurd (not_audit_bank c.args.words.now _ says.1 is)
 
 pub returns-in-Bank-clause-programs : goal.returns-in-Bank-clause-programs
 returns-in-Bank-clause-programs g c is =
@@ -177,4 +256,10 @@ pub returns-in-None-clause-closes : goal.returns-in-None-clause-closes
 returns-in-None-clause-closes g c is _ _ = absurd ((rw c.in-None.is at c.asked_for.ensures) (inl is))
 
 pub returns-in-None-clause-generates : goal.returns-in-None-clause-generates
-returns-in-None-clause-generates g c n is = absurd ((rw c.in-None.is at c.asked_for.ensures) (inr (inr (inr (n, is)))))
+returns-in-None-clause-generates g c n is = absurd ((rw c.in-None.is at c.asked_for.ensures) (inr (inr (inr (inr (n, is))))))
+
+pub returns-in-None-clause-audits : goal.returns-in-None-clause-audits
+returns-in-None-clause-audits g c is = absurd ((rw c.in-None.is at c.asked_for.ensures) (inr (inr (inr (inl is)))))
+
+pub returns-in-None-clause-audits_alone : goal.returns-in-None-clause-audits_alone
+returns-in-None-clause-audits_alone g c is = absurd ((rw c.in-None.is at c.asked_for.ensures) (inr (inr (inr (inl is)))))

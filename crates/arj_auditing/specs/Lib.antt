@@ -1,0 +1,4 @@
+pub mod Audits
+pub mod Found
+pub mod Parts
+pub mod Taking
