@@ -132,7 +132,7 @@ fn is_free_for(coord: &Coord, now: &Now) -> bool
 #[derive(Drop)]
 struct Delivery {
     from: u8,
-    message: Message,
+    message: Box<Message>,
     free: bool,
 }
 
@@ -144,12 +144,12 @@ fn hear_call(
     delivery: Delivery,
     outs: &mut Effects,
 ) -> Result<(), AllocError>
-    requires sendable { IsSendable delivery.message }
+    requires sendable { IsSendable delivery.message.value }
     requires node { IncludesNode steps.goal }
     requires room { HasNext steps }
-    requires meant { IfSome (heard_in delivery.from delivery.message steps) (MeantFor steps.x) }
-    ensures part { OnOk result ((c : coordinator.Coord) → coord.old ≡ on_doing (actor steps.path) idle_doing c → delivery.free ≡ is_free (root_of steps.path) (actor steps.path) steps.x c → IfSome (heard_in delivery.from delivery.message steps) (λ r. coord.new ≡ (heard_call steps r c).part)) }
-    ensures outs { OnOk result ((c : coordinator.Coord) → coord.old ≡ on_doing (actor steps.path) idle_doing c → delivery.free ≡ is_free (root_of steps.path) (actor steps.path) steps.x c → IfSome (heard_in delivery.from delivery.message steps) (λ r. outs.new ≡ outs.old ++ (heard_call steps r c).outs)) }
+    requires meant { IfSome (heard_in delivery.from delivery.message.value steps) (MeantFor steps.x) }
+    ensures part { OnOk result ((c : coordinator.Coord) → coord.old ≡ on_doing (actor steps.path) idle_doing c → delivery.free ≡ is_free (root_of steps.path) (actor steps.path) steps.x c → IfSome (heard_in delivery.from delivery.message.value steps) (λ r. coord.new ≡ (heard_call steps r c).part)) }
+    ensures outs { OnOk result ((c : coordinator.Coord) → coord.old ≡ on_doing (actor steps.path) idle_doing c → delivery.free ≡ is_free (root_of steps.path) (actor steps.path) steps.x c → IfSome (heard_in delivery.from delivery.message.value steps) (λ r. outs.new ≡ outs.old ++ (heard_call steps r c).outs)) }
 {
     let caller = caller_of(alloc, &steps)?;
     let Delivery {
@@ -195,13 +195,13 @@ fn hear(
     intents: &Records,
     outs: &mut Effects,
 ) -> Result<bool, AllocError>
-    requires sendable { IsSendable delivery.message }
-    requires meant { answer_is_meant coord.old (answers delivery.message) ≡ true }
-    requires room { AskerHasRoom (answers delivery.message) coord.old }
-    requires waits { IsAwaited delivery.from (answers delivery.message) coord.old action delivery.free }
-    ensures part { OnOk result (coord.new ≡ (heard_as delivery.from (answers delivery.message) intents.now coord.old).part) }
-    ensures outs { OnOk result (outs.new ≡ outs.old ++ (heard_as delivery.from (answers delivery.message) intents.now coord.old).outs) }
-    ensures taken { IfOk result (λ taken. taken ≡ is_some (heard_as delivery.from (answers delivery.message) intents.now coord.old).reply) }
+    requires sendable { IsSendable delivery.message.value }
+    requires meant { answer_is_meant coord.old (answers delivery.message.value) ≡ true }
+    requires room { AskerHasRoom (answers delivery.message.value) coord.old }
+    requires waits { IsAwaited delivery.from (answers delivery.message.value) coord.old action delivery.free }
+    ensures part { OnOk result (coord.new ≡ (heard_as delivery.from (answers delivery.message.value) intents.now coord.old).part) }
+    ensures outs { OnOk result (outs.new ≡ outs.old ++ (heard_as delivery.from (answers delivery.message.value) intents.now coord.old).outs) }
+    ensures taken { IfOk result (λ taken. taken ≡ is_some (heard_as delivery.from (answers delivery.message.value) intents.now coord.old).reply) }
 {
     coord.fits(action);
     match coord.take(action) {
@@ -216,7 +216,7 @@ fn hear(
                 coord,
                 commit,
                 delivery.from,
-                &delivery.message,
+                delivery.message,
                 intents,
                 outs,
             )?;
@@ -231,16 +231,16 @@ pub fn heard(
     alloc: Global,
     coord: &mut Coord,
     from: u8,
-    message: Message,
+    message: Box<Message>,
     intents: &Records,
     outs: &mut Effects,
 ) -> Result<bool, AllocError>
-    requires sendable { IsSendable message }
-    requires meant { answer_is_meant coord.old (answers message) ≡ true }
-    requires room { AskerHasRoom (answers message) coord.old }
-    ensures part { OnOk result (coord.new ≡ (heard_as from (answers message) intents.now coord.old).part) }
-    ensures outs { OnOk result (outs.new ≡ outs.old ++ (heard_as from (answers message) intents.now coord.old).outs) }
-    ensures taken { IfOk result (λ taken. taken ≡ is_some (heard_as from (answers message) intents.now coord.old).reply) }
+    requires sendable { IsSendable message.value }
+    requires meant { answer_is_meant coord.old (answers message.value) ≡ true }
+    requires room { AskerHasRoom (answers message.value) coord.old }
+    ensures part { OnOk result (coord.new ≡ (heard_as from (answers message.value) intents.now coord.old).part) }
+    ensures outs { OnOk result (outs.new ≡ outs.old ++ (heard_as from (answers message.value) intents.now coord.old).outs) }
+    ensures taken { IfOk result (λ taken. taken ≡ is_some (heard_as from (answers message.value) intents.now coord.old).reply) }
 {
     match who_waits(coord, from, &message) {
         Some(Awaited { action, free }) => {

@@ -38,6 +38,7 @@ fn next_request(coord: &Coord, action: Uid) -> u32
 
 // Where a call starts, what its root keeps of the object is renewed; `free` tells whether the root is free of it.
 fn start_call(
+    alloc: Global,
     coord: &mut Coord,
     path: &Path,
     x: u16,
@@ -52,7 +53,7 @@ fn start_call(
     coord.renew(root, x, free)?;
     let known = coord.known_at_start(root, path.top_path().last(), x)?;
     let avoid = coord.avoid(root, x);
-    Ok(CallSteps::start(path, x, Goal::Call(op), known, avoid, req))
+    CallSteps::start(alloc, path, x, Goal::Call(op), known, avoid, req)
 }
 
 /// An action calls an object: refused as `arj_tree` says.
@@ -76,7 +77,7 @@ pub fn call(
     let free = coord.is_free(path.root(), action, x);
     let req = next_request(coord, action);
     coord.use_object(action, x)?;
-    let steps = start_call(coord, &path, x, op, req, free)?;
+    let steps = start_call(alloc, coord, &path, x, op, req, free)?;
     wait_now(alloc, coord, action, req, Now::Calling(steps), outs)?;
     Ok(())
 }
@@ -103,7 +104,7 @@ pub fn include(
     let req = next_request(coord, action);
     coord.use_object(action, x)?;
     let none = Binding { inc: 0, count: 0 };
-    let steps = CallSteps::start(&path, x, Goal::Include(store), None, none, req);
+    let steps = CallSteps::start(alloc, &path, x, Goal::Include(store), None, none, req)?;
     wait_now(alloc, coord, action, req, Now::Calling(steps), outs)?;
     Ok(())
 }

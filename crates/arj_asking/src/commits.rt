@@ -26,11 +26,12 @@ use std::alloc::{AllocError, Global};
 // ---- the steps
 
 // A step of a commit waits on.
-fn stay(coord: &mut Coord, action: Uid, commit: Commit) -> Result<(), AllocError>
+fn stay(alloc: Global, coord: &mut Coord, action: Uid, commit: Commit) -> Result<(), AllocError>
     requires { actor (plan_of (machine_of commit)).path ≡ action }
     ensures { OnOk result (coord.new ≡ commits_in action (machine_of commit) coord.old) }
 {
     let req = plan_in(&commit).req;
+    let commit = Box::new(alloc, commit)?;
     coord.wait(action, req, Now::Committing(commit))
 }
 
@@ -47,6 +48,7 @@ fn ask(
     ensures outs { OnOk result (outs.new ≡ outs.old ++ (asking.asks_machine (machine_of commit) (commits_in action (machine_of commit) coord.old)).outs) }
 {
     let req = plan_in(&commit).req;
+    let commit = Box::new(alloc, commit)?;
     wait_now(alloc, coord, action, req, Now::Committing(commit), outs)
 }
 
@@ -86,7 +88,7 @@ fn after_votes(
     ensures outs { OnOk result (outs.new ≡ outs.old ++ (moved_commit action (done.after_votes step) intents.now coord.old).outs) }
 {
     match step {
-        Step::Voting(step) => stay(coord, action, Commit::Voting(step)),
+        Step::Voting(step) => stay(alloc, coord, action, Commit::Voting(step)),
         step => enter(alloc, coord, action, step, intents, outs),
     }
 }
@@ -106,7 +108,7 @@ fn after_stores(
     ensures outs { OnOk result (outs.new ≡ outs.old ++ (moved_commit action (done.after_stores step) intents.now coord.old).outs) }
 {
     match step {
-        Step::Preparing(step) => stay(coord, action, Commit::Preparing(step)),
+        Step::Preparing(step) => stay(alloc, coord, action, Commit::Preparing(step)),
         Step::Confirming(step) => {
             say_marks(coord, action, step.plan().excluded.as_slice(), outs)?;
             enter(alloc, coord, action, Step::Confirming(step), intents, outs)
@@ -133,7 +135,7 @@ fn after_confirm(
     ensures outs { OnOk result (outs.new ≡ outs.old ++ (moved_commit action (done.after_confirm step) intents.now coord.old).outs) }
 {
     match step {
-        Step::Confirming(step) => stay(coord, action, Commit::Confirming(step)),
+        Step::Confirming(step) => stay(alloc, coord, action, Commit::Confirming(step)),
         step => enter(alloc, coord, action, step, intents, outs),
     }
 }
@@ -209,27 +211,27 @@ pub fn commit_action(
 pub fn hear_commit(
     alloc: Global,
     coord: &mut Coord,
-    commit: Commit,
+    commit: Box<Commit>,
     from: u8,
-    message: &Message,
+    message: Box<Message>,
     intents: &Records,
     outs: &mut Effects,
 ) -> Result<(), AllocError>
-    requires { waits_for from message.now (machine_of commit) ≡ true }
-    ensures part { OnOk result (coord.new ≡ (moved_commit (actor (plan_of (machine_of commit)).path) (heard from message.now (machine_of commit)) intents.now coord.old).part) }
-    ensures outs { OnOk result (outs.new ≡ outs.old ++ (moved_commit (actor (plan_of (machine_of commit)).path) (heard from message.now (machine_of commit)) intents.now coord.old).outs) }
+    requires { waits_for from message.value (machine_of commit.value) ≡ true }
+    ensures part { OnOk result (coord.new ≡ (moved_commit (actor (plan_of (machine_of commit.value)).path) (heard from message.value (machine_of commit.value)) intents.now coord.old).part) }
+    ensures outs { OnOk result (outs.new ≡ outs.old ++ (moved_commit (actor (plan_of (machine_of commit.value)).path) (heard from message.value (machine_of commit.value)) intents.now coord.old).outs) }
 {
     let action = plan_in(&commit).path.last();
-    match commit {
-        Commit::Voting(step) => match step.answered(from, message) {
+    match Box::into_inner(commit) {
+        Commit::Voting(step) => match step.answered(from, &message) {
             Ok(step) => after_votes(alloc, coord, action, step, intents, outs),
             Err(_) => Err(AllocError),
         },
-        Commit::Preparing(step) => match step.answered(from, message) {
+        Commit::Preparing(step) => match step.answered(from, &message) {
             Ok(step) => after_stores(alloc, coord, action, step, intents, outs),
             Err(_) => Err(AllocError),
         },
-        Commit::Confirming(step) => match step.answered(from, message) {
+        Commit::Confirming(step) => match step.answered(from, &message) {
             Ok(step) => after_confirm(alloc, coord, action, step, intents, outs),
             Err(_) => Err(AllocError),
         },
@@ -262,16 +264,16 @@ fn say_given_up(
 pub fn give_up_commit(
     alloc: Global,
     coord: &mut Coord,
-    commit: Commit,
+    commit: Box<Commit>,
     intents: &Records,
     outs: &mut Effects,
 ) -> Result<(), AllocError>
-    ensures part { OnOk result (coord.new ≡ (moved_commit (actor (plan_of (machine_of commit)).path) (given_up (machine_of commit)) intents.now coord.old).part) }
-    ensures outs { OnOk result (outs.new ≡ outs.old ++ (gaveup_lines (actor (plan_of (machine_of commit)).path) (nodes_given_up (machine_of commit)) coord.old ++ (moved_commit (actor (plan_of (machine_of commit)).path) (given_up (machine_of commit)) intents.now coord.old).outs)) }
+    ensures part { OnOk result (coord.new ≡ (moved_commit (actor (plan_of (machine_of commit.value)).path) (given_up (machine_of commit.value)) intents.now coord.old).part) }
+    ensures outs { OnOk result (outs.new ≡ outs.old ++ (gaveup_lines (actor (plan_of (machine_of commit.value)).path) (nodes_given_up (machine_of commit.value)) coord.old ++ (moved_commit (actor (plan_of (machine_of commit.value)).path) (given_up (machine_of commit.value)) intents.now coord.old).outs)) }
 {
     let action = plan_in(&commit).path.last();
     say_given_up(coord, action, &commit, outs)?;
-    match commit {
+    match Box::into_inner(commit) {
         Commit::Voting(step) => { after_votes(alloc, coord, action, step.give_up(), intents, outs) }
         Commit::Preparing(step) => match step.give_up() {
             Ok(step) => after_stores(alloc, coord, action, step, intents, outs),

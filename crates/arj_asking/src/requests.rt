@@ -134,6 +134,17 @@ pub fn send(coord: &mut Coord, questions: Questions, outs: &mut Effects) -> Resu
     }
 }
 
+// The request of a call's step goes to its node, and the root takes note of it.
+fn send_step(coord: &mut Coord, steps: &CallSteps, outs: &mut Effects) -> Result<(), AllocError>
+    ensures part { OnOk result (coord.new ≡ (asks_step steps.now coord.old).part) }
+    ensures outs { OnOk result (outs.new ≡ outs.old ++ (asks_step steps.now coord.old).outs) }
+{
+    let path = steps.path();
+    let asked = steps.next(coord.tree().ends(path.root()))?;
+    outs.send(asked.0, asked.1)?;
+    coord.note_sent(path, asked.0, steps.invokes())
+}
+
 // What an action is about to wait for is asked.
 fn ask_now(
     alloc: Global,
@@ -144,6 +155,9 @@ fn ask_now(
     ensures part { OnOk result (coord.new ≡ (again_now coord.old (now_of now.now)).part) }
     ensures outs { OnOk result (outs.new ≡ outs.old ++ (again_now coord.old (now_of now.now)).outs) }
 {
+    if let Now::Calling(steps) = now {
+        return send_step(coord, steps, outs);
+    }
     let questions = questions_of(alloc, now, coord.tree())?;
     send(coord, questions, outs)
 }

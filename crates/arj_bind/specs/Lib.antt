@@ -1,3 +1,4 @@
+pub mod Asking
 pub mod Shown
 pub mod Heard
 pub mod Laws

@@ -17,5 +17,5 @@ pub enum CallStep {
 #[derive(Drop)]
 pub struct Unanswered {
     pub steps: CallSteps,
-    pub message: Message,
+    pub message: Box<Message>,
 }

@@ -7,6 +7,7 @@ ghost use Rattle.arj_protocol.specs.Ask.{answers, top_of};
 ghost use Rattle.arj_protocol.specs.Asking.{is_invoke_ask};
 ghost use Rattle.arj_protocol.specs.Call.{start, next_ask, next_node, ask_at};
 ghost use Rattle.arj_protocol.specs.Call as call;
+ghost use Rattle.arj_bind.specs.Asking.{steps_of};
 ghost use Rattle.arj_bind.specs.Shown.{goal_of, at_of, next_of};
 ghost use Rattle.arj_bind.specs.Heard.{known_in, stores_in, heard_in, hears, gives_up, came_of, came_by, granted_in, is_awaited};
 
@@ -18,11 +19,16 @@ use arj_base::{Binding, Ends, NodeList, Path};
 use arj_msg::{Activate, Bind, BoundReply, Head, Invoke, Load, Message, RecordMsg};
 use std::alloc::{AllocError, Global};
 use std::marker::Model;
+use std::mem;
 
-/// A call of an object, or an include of a store for it, by the action with this path. One request waits; its number is one
-/// above the last one's. Contracts see the protocol's `Steps`.
+// What stands in place of a step that was taken out.
+const NOWHERE: At = At::Bind(BindStep {
+    avoid: Binding { inc: 0, count: 0 },
+});
+
+// What the steps are: they are long, and stand in a box, so that they aren't copied as they are handed on.
 #[derive(Drop)]
-pub struct CallSteps {
+struct Asking {
     path: Path,
     x: u16,
     goal: Goal,
@@ -30,26 +36,34 @@ pub struct CallSteps {
     at: At,
 }
 
+/// A call of an object, or an include of a store for it, by the action with this path. One request waits; its number is one
+/// above the last one's. Contracts see the protocol's `Steps`.
+#[derive(Drop)]
+pub struct CallSteps {
+    asking: Box<Asking>,
+}
+
 impl Model for CallSteps {
     ghost use Rattle.arj_protocol.specs.Call.{Steps};
-    ghost use Rattle.arj_bind.specs.Shown.{goal_of, at_of};
+    ghost use Rattle.arj_bind.specs.Asking.{steps_of};
 
     ghost Value = { Steps };
 
-    ghost view = { λ s. record { path = s.path; x = s.x; goal = goal_of s.goal; req = s.req; at = at_of s.at } };
+    ghost view = { λ s. steps_of s.asking.value };
 }
 
 impl CallSteps {
     /// Begins with the Invoke where the binding is known, else with a Bind.
     pub fn start(
+        alloc: Global,
         path: &Path,
         x: u16,
         goal: Goal,
         known: Option<Known>,
         avoid: Binding,
         req: u32,
-    ) -> CallSteps
-        ensures { result ≡ start path.now x (goal_of goal) known avoid req }
+    ) -> Result<CallSteps, AllocError>
+        ensures { IfOk result (λ s. s ≡ start path.now x (goal_of goal) known avoid req) }
     {
         let at = match known {
             None => At::Bind(BindStep { avoid }),
@@ -58,13 +72,16 @@ impl CallSteps {
                 At::Invoke(InvokeStep { known, inc })
             }
         };
-        CallSteps {
+        let asking = Asking {
             path: *path,
             x,
             goal,
             req,
             at,
-        }
+        };
+        Ok(CallSteps {
+            asking: Box::new(alloc, asking)?,
+        })
     }
 
     /// The request that waits and the node that it goes to, 1 to 16; `ends` has the ends of the root so far. A request that
@@ -73,13 +90,14 @@ impl CallSteps {
         ensures node { IfOk result (λ r. r.0 ≡ next_node self.now) }
         ensures request { IfOk result (λ r. r.1 ≡ request (record { path = self.now.path; req = self.now.req }) (next_ask ends.now self.now)) }
     {
+        let asking = &self.asking;
         let head = Head {
-            path: self.path,
-            req: self.req,
+            path: asking.path,
+            req: asking.req,
         };
         Ok((
-            self.at.node(),
-            request(head, self.x, &self.goal, ends, &self.at)?,
+            asking.at.node(),
+            request(head, asking.x, &asking.goal, ends, &asking.at)?,
         ))
     }
 
@@ -87,56 +105,56 @@ impl CallSteps {
     pub fn path(&self) -> &Path
         ensures { result.now ≡ self.now.path }
     {
-        &self.path
+        &self.asking.path
     }
 
     /// The object.
     pub fn object(&self) -> u16
         ensures { result ≡ self.now.x }
     {
-        self.x
+        self.asking.x
     }
 
     /// What the steps are for.
     pub fn goal(&self) -> &Goal
         ensures { goal_of result.now ≡ self.now.goal }
     {
-        &self.goal
+        &self.asking.goal
     }
 
     /// The number of the request that waits.
     pub fn request_number(&self) -> u32
         ensures { result ≡ self.now.req }
     {
-        self.req
+        self.asking.req
     }
 
     /// The node whose answer is awaited.
     pub fn node(&self) -> u8
         ensures { result ≡ next_node self.now }
     {
-        self.at.node()
+        self.asking.at.node()
     }
 
     /// Whether the request that waits is the Invoke.
     pub fn invokes(&self) -> bool
         ensures { (ends : List (Uid × End)) → result ≡ is_invoke_ask (next_ask ends self.now) }
     {
-        self.at.invokes()
+        self.asking.at.invokes()
     }
 
     /// What the answer to the Bind told; None before it.
     pub fn known(&self) -> Option<&Known>
         ensures { option_copied result ≡ known_in self.now.at }
     {
-        self.at.known()
+        self.asking.at.known()
     }
 
     /// Whether a message from this node answers the request that waits.
     pub fn takes(&self, from: u8, message: &Message) -> bool
         ensures { result ≡ is_some (heard_in from message.now self.now) }
     {
-        is_awaited(self.at.asked_for(message), self.req, self.at.node(), from)
+        takes(&self.asking, from, message)
     }
 
     /// Goes on by a message from a node, or ends; Foreign exactly where the message doesn't answer the request that waits.
@@ -146,12 +164,12 @@ impl CallSteps {
         self,
         alloc: Global,
         from: u8,
-        message: Message,
+        message: Box<Message>,
         keeping: &mut Keeping,
         free: bool,
     ) -> Result<CallStep, Unanswered>
-        ensures came { IfOk result (λ step. came_of step ≡ (hears free keeping.old self (heard_in from message self)).came) }
-        ensures keeping { OnOk result (keeping.new ≡ (hears free keeping.old self (heard_in from message self)).keeping) }
+        ensures came { IfOk result (λ step. came_of step ≡ (hears free keeping.old self (heard_in from message.value self)).came) }
+        ensures keeping { OnOk result (keeping.new ≡ (hears free keeping.old self (heard_in from message.value self)).keeping) }
         ensures steps { IfErr result (λ back. back.steps ≡ self) }
         ensures message { IfErr result (λ back. back.message ≡ message) }
         ensures kept { OnErr result (keeping.new ≡ keeping.old) }
@@ -166,22 +184,17 @@ impl CallSteps {
             });
         };
         let was = keeping.binding();
-        let Ok(kept) = keeping.lend(&self.goal) else {
+        let Ok(kept) = keeping.lend(&self.asking.goal) else {
             return Err(Unanswered {
                 steps: self,
                 message,
             });
         };
-        let CallSteps {
-            path,
-            x,
-            goal,
-            req,
-            at,
-        } = self;
-        let moved = at.answered(free, kept, &goal, message, spare);
-        keeping.keeps_after(&goal, was, has_changed(&moved.next), moved.kept);
-        Ok(step(path, x, goal, req, moved.next))
+        let mut asking = self.asking;
+        let at = mem::replace(&mut asking.at, NOWHERE);
+        let moved = at.answered(free, kept, &asking.goal, Box::into_inner(message), spare);
+        keeping.keeps_after(&asking.goal, was, has_changed(&moved.next), moved.kept);
+        Ok(step(asking, moved.next))
     }
 
     /// Goes on after a giveup, to the next store of a load, or ends: lost. A call that is lost where the server may have the
@@ -190,17 +203,12 @@ impl CallSteps {
         ensures came { came_of result ≡ (gives_up keeping.old self).came }
         ensures keeping { keeping.new ≡ (gives_up keeping.old self).keeping }
     {
-        let CallSteps {
-            path,
-            x,
-            goal,
-            req,
-            at,
-        } = self;
+        let mut asking = self.asking;
+        let at = mem::replace(&mut asking.at, NOWHERE);
         let spoils = at.spoils();
         let next = at.given_up();
-        keeping.loses(&goal, is_ended(&next) && spoils);
-        step(path, x, goal, req, next)
+        keeping.loses(&asking.goal, is_ended(&next) && spoils);
+        step(asking, next)
     }
 
     /// The lock on the entry that an answer of naming grants to the top; None for all other messages.
@@ -225,12 +233,24 @@ impl CallSteps {
             BoundReply::Conflict { .. } => return None,
         };
         Some(Grant {
-            top: self.path.top_path().last(),
-            x: self.x,
+            top: self.asking.path.top_path().last(),
+            x: self.asking.x,
             least,
             named,
         })
     }
+}
+
+// Whether a message from a node answers the request that waits.
+fn takes(asking: &Asking, from: u8, message: &Message) -> bool
+    ensures { result ≡ is_some (heard_in from message.now (steps_of asking.now)) }
+{
+    is_awaited(
+        asking.at.asked_for(message),
+        asking.req,
+        asking.at.node(),
+        from,
+    )
 }
 
 // Whether an answer from a node to the request of number `asked`, if it is one, is that to the request `req` at `node`.
@@ -244,17 +264,15 @@ fn is_awaited(asked: Option<u32>, req: u32, node: u8, from: u8) -> bool
 }
 
 // What follows, as steps again.
-fn step(path: Path, x: u16, goal: Goal, req: u32, next: Next) -> CallStep
-    ensures { (at : call.At) → came_of result ≡ came_by (record { path = path; x = x; goal = goal_of goal; req = req; at = at }) (next_of next) }
+fn step(mut asking: Box<Asking>, next: Next) -> CallStep
+    ensures { (at : call.At) → came_of result ≡ came_by (record (steps_of asking.value) { at = at }) (next_of next) }
 {
     match next {
-        Next::On(at) => CallStep::On(CallSteps {
-            path,
-            x,
-            goal,
-            req: req.saturating_add(1),
-            at,
-        }),
+        Next::On(at) => {
+            asking.req = asking.req.saturating_add(1);
+            asking.at = at;
+            CallStep::On(CallSteps { asking })
+        }
         Next::Ended(end) => CallStep::Ended(end),
     }
 }

@@ -228,6 +228,7 @@ fn hear(
     if !is_meant(coord, &message) || !asker_has_room(coord, &message) {
         return Ok(false);
     }
+    let message = Box::new(alloc, message)?;
     heard(alloc, coord, from, message, &Records::new(alloc), outs)
 }
 

@@ -434,11 +434,11 @@ fn put_keeping(alloc: Global, text: &mut String, keeping: &Keeping) -> Result<()
     Ok(())
 }
 
-fn start(call: &Call, keeping: &mut Keeping) -> Result<CallSteps, AllocError> {
+fn start(alloc: Global, call: &Call, keeping: &mut Keeping) -> Result<CallSteps, AllocError> {
     let path = Path::new(CALLER);
     if call.how.include {
         let avoid = Binding { inc: 0, count: 0 };
-        return Ok(CallSteps::start(&path, 1, Goal::Include(6), None, avoid, 1));
+        return CallSteps::start(alloc, &path, 1, Goal::Include(6), None, avoid, 1);
     }
     keeping.renew(call.how.free);
     let known = match keeping.known_at_start(call.how.named) {
@@ -446,7 +446,7 @@ fn start(call: &Call, keeping: &mut Keeping) -> Result<CallSteps, AllocError> {
         None => None,
     };
     let goal = Goal::Call(Op::Add(1));
-    Ok(CallSteps::start(&path, 1, goal, known, keeping.avoid(), 1))
+    CallSteps::start(alloc, &path, 1, goal, known, keeping.avoid(), 1)
 }
 
 // The steps go on by what they are told, as the answer to the request of this number.
@@ -465,7 +465,7 @@ fn hear(
         _ => node,
     };
     let asked = Asked { act: CALLER, req };
-    let message = message(alloc, told, asked)?;
+    let message = Box::new(alloc, message(alloc, told, asked)?)?;
     match steps.answered(alloc, from, message, keeping, call.how.free) {
         Ok(step) => Ok(step),
         Err(_) => Err(AllocError),
@@ -479,7 +479,7 @@ fn put_request(alloc: Global, text: &mut String, steps: &CallSteps) -> Result<()
 
 // A call to its end.
 fn run(alloc: Global, call: &Call, keeping: &mut Keeping) -> Result<String, AllocError> {
-    let mut steps = start(call, keeping)?;
+    let mut steps = start(alloc, call, keeping)?;
     let mut text = String::new(alloc);
     put_request(alloc, &mut text, &steps)?;
     let mut req = 1u32;

@@ -14,7 +14,7 @@ use Rattle.arj_protocol.specs.Words.body
 -- an effect
 abbrev pub effect_of : Effect → protocol.Effect
 effect_of (Effect.Say b) = protocol.Say b
-effect_of (Effect.Send n m) = protocol.Send n m
+effect_of (Effect.Send n m) = protocol.Send n m.value
 effect_of (Effect.PutRecord i) = protocol.Do (protocol.PutIntent i.top (shown i))
 effect_of (Effect.RemoveRecord top) = protocol.Do (protocol.RemoveIntent top)
 
@@ -33,7 +33,7 @@ machine_of (Commit.Confirming p) = commit.Confirming p
 abbrev pub now_of : Now → coord.Now
 now_of Now.Idle = coord.Idle
 now_of (Now.Calling s) = coord.Calling s
-now_of (Now.Committing m) = coord.Committing (machine_of m)
+now_of (Now.Committing m) = coord.Committing (machine_of m.value)
 
 -- the line of an end
 abbrev pub line_of : EndLine → Label → Body

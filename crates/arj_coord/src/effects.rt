@@ -16,6 +16,7 @@ use std::marker::Model;
 /// Effects in order, each record of them in form. Contracts see the protocol's effects.
 #[derive(Drop)]
 pub struct Effects {
+    alloc: Global,
     items: Vec<Effect>,
 }
 
@@ -38,6 +39,7 @@ impl Effects {
         ensures { result ≡ [] }
     {
         Effects {
+            alloc,
             items: Vec::new(alloc),
         }
     }
@@ -78,6 +80,7 @@ impl Effects {
     pub fn send(&mut self, node: u8, message: Message) -> Result<(), AllocError>
         ensures { OnOk result (self.new ≡ self.old ++ protocol.Send node message ∷ []) }
     {
+        let message = Box::new(self.alloc, message)?;
         self.push(Effect::Send(node, message))
     }
 

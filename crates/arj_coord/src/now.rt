@@ -15,12 +15,13 @@ pub enum Commit {
     Confirming(Confirming),
 }
 
-/// What an action waits for: nothing, the answer to a request of a call or an include, or answers of its commit.
+/// What an action waits for: nothing, the answer to a request of a call or an include, or answers of its commit. A commit is
+/// long, and stands in a box.
 #[derive(Drop)]
 pub enum Now {
     Idle,
     Calling(CallSteps),
-    Committing(Commit),
+    Committing(Box<Commit>),
 }
 
 /// Lets go of what was waited for: so that a function with several ends lets it go in one way at each.

@@ -136,12 +136,12 @@ impl Coord {
         &mut self,
         steps: CallSteps,
         from: u8,
-        message: Message,
+        message: Box<Message>,
         free: bool,
     ) -> Result<CallStep, AllocError>
-        requires { IsSendable message }
-        ensures came { IfOk result (λ step. came_of step ≡ (hears free (keeping_of steps.x (root_at (root_of steps.path) self.old)) steps (heard_in from message steps)).came) }
-        ensures part { OnOk result (IfSome (heard_in from message steps) (λ r. self.new ≡ on_root (root_of steps.path) (root_moved steps r (answered free ((keeping_of steps.x (root_at (root_of steps.path) self.old)).kept) steps.goal steps.at r)) self.old)) }
+        requires { IsSendable message.value }
+        ensures came { IfOk result (λ step. came_of step ≡ (hears free (keeping_of steps.x (root_at (root_of steps.path) self.old)) steps (heard_in from message.value steps)).came) }
+        ensures part { OnOk result (IfSome (heard_in from message.value steps) (λ r. self.new ≡ on_root (root_of steps.path) (root_moved steps r (answered free ((keeping_of steps.x (root_at (root_of steps.path) self.old)).kept) steps.goal steps.at r)) self.old)) }
     {
         let root = steps.path().root();
         if let Some(has) = self.roots.get_mut(&root.num) {

@@ -16,7 +16,7 @@ use Rattle.arj_node.specs.declared.node.NodeCore.{NodeCore}
 use Rattle.arj_node.specs.declared.parts.Parts.{Ghosts}
 use Rattle.arj_node.proofs.Lists.{count_front, cut_there, puts_none}
 use Rattle.arj_node.proofs.Outs.{said_one}
-use Rattle.arj_protocol.specs.Effect.{Disk, Effect, Do, stopped}
+use Rattle.arj_protocol.specs.Effect.{Disk, Effect, stopped}
 use Rattle.arj_protocol.specs.Node.{Here}
 use Rattle.arj_protocol.specs.Step.{Input, Node, Step, crash_step, does_nothing, only_says, step}
 use Rattle.arj_protocol.specs.Words.{Body, Header}

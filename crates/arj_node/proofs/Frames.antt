@@ -10,14 +10,13 @@ use Rattle.arj_node.specs.Outgoing.{IsHalted, effects_of, loud}
 use Rattle.arj_node.specs.Ran.{IsCut, disk_after, outward}
 use Rattle.arj_node.specs.Stepped.{Steps, up_node}
 use Rattle.arj_node.specs.declared.outgoing.Outgoing.{Outgoing}
-use Rattle.arj_node.proofs.Handled.{halted_so, took_cut}
-use Rattle.arj_node.proofs.Lists.{puts_more, ran_is, stopped_first}
+use Rattle.arj_node.proofs.Handled.{took_cut}
+use Rattle.arj_node.proofs.Lists.{puts_more}
 use Rattle.arj_node.proofs.Outs.{said_one}
 use Rattle.arj_node.proofs.Quiet.{IsQuiet}
-use Rattle.arj_node.proofs.Turns.{rounds_front}
 use Rattle.arj_protocol.specs.Ask.{frame_kind}
 use Rattle.arj_protocol.specs.Effect.{Disk, Effect, Say, Send, Do}
-use Rattle.arj_protocol.specs.Node.{Handled, Void, Took, Here, Parts, Ran, ran, whole}
+use Rattle.arj_protocol.specs.Node.{Handled, Void, Took, Here, Parts, whole}
 use Rattle.arj_protocol.specs.Step.{handled_step, void_step}
 use Rattle.arj_protocol.specs.Words.{Body}
 use Rattle.arj_protocol.specs.Words.body

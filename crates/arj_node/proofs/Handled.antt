@@ -2,12 +2,13 @@
 use Rattle.std.proofs.Common.{◌≡◌, ◌∙◌, ◌==◌, ℕ, suc, Bool, true, false, List, [], ◌∷◌, ◌++◌, length, refl, sym, ap, subst}
 use Rattle.std.proofs.lemmas.Bool.{eqb-true}
 use Rattle.std.proofs.lemmas.List.{append-nil, append_assoc, nil_from_length}
+use Rattle.std.specs.Global.{Box}
 use Rattle.std.specs.Prelude.{Result, Ok, Err, IsErrAnd}
 use Rattle.arj_core.specs.declared.output.Output.{Output}
 use Rattle.arj_core.specs.Steps.{PutsOut}
 use Rattle.arj_node.specs.Goes.{Goes, GoesOn}
 use Rattle.arj_node.specs.Handing.{IsTaken, Takes, Leaves, outs_of}
-use Rattle.arj_node.specs.Outgoing.{IsHalted, effects_of, loud}
+use Rattle.arj_node.specs.Outgoing.{IsHalted, effects_of, loud, messages_of}
 use Rattle.arj_node.specs.Ran.{IsCut, IsStoppedAt, disk_after, inward, outward}
 use Rattle.arj_node.specs.declared.outgoing.Outgoing.{Outgoing}
 use Rattle.arj_node.specs.declared.outgoing.Outgoing.TheVariants as of
@@ -215,12 +216,13 @@ told_loud [] = refl
 told_loud (of.Say b ∷ outs) = ap (λ es. Say b ∷ es) (told_loud outs)
 told_loud (of.Send to m ∷ outs) = ap (λ es. Send to m ∷ es) (told_loud outs)
 
-pub is_nil : (q : List Message) (len : ℕ) → len ≡ length q → true ≡ (len == 0) → q ≡ []
-is_nil q len same is = nil_from_length q (sym same ∙ eqb-true len 0 (sym is))
+pub is_nil : (q : List (Box Message)) (len : ℕ) → len ≡ length q → true ≡ (len == 0) → messages_of q ≡ []
+is_nil q len same is = ap messages_of (nil_from_length q (sym same ∙ eqb-true len 0 (sym is)))
 
-pub isnt_nil : (q : List Message) (len : ℕ) → len ≡ length q → false ≡ (len == 0) → (m : Message) × (ms : List Message) × (q ≡ m ∷ ms)
+pub isnt_nil : (q : List (Box Message)) (len : ℕ) → len ≡ length q → false ≡ (len == 0) →
+    (m : Message) × (ms : List Message) × (messages_of q ≡ m ∷ ms)
 isnt_nil [] len same isnt = let never : false ≡ true = isnt ∙ ap (λ k. k == 0) same in absurd cc
-isnt_nil (m ∷ ms) len same isnt = (m, ms, refl)
+isnt_nil (m ∷ ms) len same isnt = (m.value, messages_of ms, refl)
 
 module _ (n : ℕ) (on : Here → Type 0) where
   pub stage_turn : (k : ℕ) (now : Here → Type 0) (all : Ran) (d : Disk) (a b c : List Output) (q q1 : List Message) →

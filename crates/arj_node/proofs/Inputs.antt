@@ -2,7 +2,7 @@
 use Rattle.std.proofs.Common.{◌≡◌, ◌∙◌, ◌==◌, ℕ, Bool, true, false, cond, List, [], ◌∷◌, ◌++◌, Option, Some, None, refl, sym, ap, subst}
 use Rattle.arj_core.specs.declared.output.Output.{Output}
 use Rattle.arj_core.specs.Steps.{PutsOut}
-use Rattle.arj_node.specs.Acting.{Handed, IsDone, Shows, acts_at, asked_of, why_at}
+use Rattle.arj_node.specs.Acting.{IsDone, Shows, acts_at, asked_of, why_at}
 use Rattle.arj_node.specs.Goes.{Goes}
 use Rattle.arj_node.specs.Handing.{Does}
 use Rattle.arj_node.specs.Outgoing.{IsHalted, effects_of, loud}
@@ -13,8 +13,7 @@ use Rattle.arj_node.specs.declared.act.Act.TheVariants as of
 use Rattle.arj_node.specs.declared.outgoing.Outgoing.{Outgoing}
 use Rattle.arj_node.proofs.Handled.{halted_so, took_cut}
 use Rattle.arj_node.proofs.Lists.{out_behind, puts_loud}
-use Rattle.arj_protocol.specs.Coord.{Coord}
-use Rattle.arj_protocol.specs.Effect.{Did, Disk, Effect, Pair, Do, Look, held_at, holder_of}
+use Rattle.arj_protocol.specs.Effect.{Disk, Effect, Pair, Do, Look, held_at, holder_of}
 use Rattle.arj_protocol.specs.Node.{Here, Parts, whole, with_coord}
 use Rattle.arj_protocol.specs.Step.{Step, coord_did, copy_line, entry_line, node_did, only_says, show_entry, show_outs, show_step, shown}
 use Rattle.arj_protocol.specs.Step.{step, step_unless, step_up}

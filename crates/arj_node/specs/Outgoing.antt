@@ -1,5 +1,6 @@
 -- What parts hand back, in the protocol's words.
 use Rattle.std.specs.Prelude.{◌≡◌, List, [], ◌∷◌, ◌++◌, map, ⊤}
+use Rattle.std.specs.Global.{Box}
 use Rattle.std.specs.List.{AllByRecursion}
 use Rattle.arj_msg.specs.Sendable.{IsSendable}
 use Rattle.arj_node.specs.Ran.{IsStoppedAt}
@@ -8,6 +9,7 @@ use Rattle.arj_node.specs.declared.outgoing.Handed.TheVariants as handed
 use Rattle.arj_node.specs.declared.outgoing.Outgoing.{Outgoing}
 use Rattle.arj_node.specs.declared.outgoing.Outgoing.TheVariants as of
 use Rattle.arj_protocol.specs.Effect.{Disk, Effect, Say, Send, Do}
+use Rattle.arj_protocol.specs.Words.{Message}
 
 -- what is kept, as contracts see it
 abbrev pub outgoing_of : Handed → Outgoing
@@ -22,6 +24,10 @@ effect_of (of.Send to m) = Send to m
 -- so of all in order
 abbrev pub effects_of : List Outgoing → List Effect
 effects_of outs = map effect_of outs
+
+-- messages that stand in boxes
+abbrev pub messages_of : List (Box Message) → List Message
+messages_of ms = map (λ (b : Box Message). b.value) ms
 
 -- effects but for the work
 abbrev pub loud : List Effect → List Effect

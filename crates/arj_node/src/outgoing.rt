@@ -75,10 +75,17 @@ impl Outgoings {
     pub fn send(&mut self, to: u8, message: Message) -> Result<(), AllocError>
         ensures { OnOk result (self.new ≡ self.old ++ of.Send to message ∷ []) }
     {
+        let message = Box::new(self.alloc, message)?;
+        self.forward(to, message)
+    }
+
+    /// A message that stands in a box already is handed back, as by `send`.
+    pub fn forward(&mut self, to: u8, message: Box<Message>) -> Result<(), AllocError>
+        ensures { OnOk result (self.new ≡ self.old ++ of.Send to message.value ∷ []) }
+    {
         if !can_be_sent(self.alloc, &message)? {
             return Err(AllocError);
         }
-        let message = Box::new(self.alloc, message)?;
         self.push(Handed::Send { to, message })
     }
 

@@ -102,15 +102,15 @@ pub trait Parts: Sized {
         &mut self,
         disk: &mut D,
         from: u8,
-        m: Message,
+        m: Box<Message>,
         outs: &mut Outgoings,
     ) -> Result<bool, CoreFault>
         requires stands { (header : Header) × (n : ℕ) × (h : protocol.Here) × stands header n self.old (D.file disk.old) h }
-        requires spelled { IsSendable m }
+        requires spelled { IsSendable m.value }
         ensures done { IfOk result (λ took. (header : Header) (n : ℕ) (h : protocol.Here) → stands header n self.old (D.file disk.old) h
-            → IsTaken (stands header n self.new (D.file disk.new)) h (protocol.taken n h.disk h.parts from m) outs.old outs.new took) }
+            → IsTaken (stands header n self.new (D.file disk.new)) h (protocol.taken n h.disk h.parts from m.value) outs.old outs.new took) }
         ensures halted { IsErrOf result CoreFault.Halted → (header : Header) (n : ℕ) (h : protocol.Here) → stands header n self.old (D.file disk.old) h
-            → IsHalted (rests header n (D.file disk.new)) (outs_of (protocol.taken n h.disk h.parts from m)) h.disk outs.old outs.new }
+            → IsHalted (rests header n (D.file disk.new)) (outs_of (protocol.taken n h.disk h.parts from m.value)) h.disk outs.old outs.new }
         ensures counts { CountsStep (counts D.Disk disk.old) (counts D.Disk disk.new) result CoreFault.Halted };
 
     /// A node that goes down has the disk that it had.

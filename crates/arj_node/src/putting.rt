@@ -3,7 +3,7 @@ ghost use Rattle.std.specs.Prelude.{◌≡◌, ◌++◌, ◌∷◌, [], OnOk, If
 ghost use Rattle.std.specs.List.{AllByRecursion};
 ghost use Rattle.arj_core.specs.Steps.{PutsOut, message_of};
 ghost use Rattle.arj_msg.specs.Sendable.{IsSendable};
-ghost use Rattle.arj_node.specs.Outgoing.{IsSpelled, effect_of, effects_of, outgoing_of};
+ghost use Rattle.arj_node.specs.Outgoing.{IsSpelled, effect_of, effects_of, messages_of, outgoing_of};
 ghost use Rattle.arj_node.specs.Ran.{inward, outward};
 ghost use Rattle.arj_protocol.specs.Ask.{frame_kind};
 ghost use Rattle.arj_protocol.specs.Effect.{Send};
@@ -61,18 +61,18 @@ fn put_one(
     number: u8,
     one: Handed,
     out: &mut Outputs,
-    queue: &mut Vec<Message>,
+    queue: &mut Vec<Box<Message>>,
 ) -> Result<(), AllocError>
     requires { IsSpelled (outgoing_of one) }
     ensures puts { OnOk result (PutsOut (outward number (effect_of (outgoing_of one) ∷ [])) out.old out.new) }
-    ensures queue { OnOk result (queue.new.items ≡ queue.old.items ++ inward number (effect_of (outgoing_of one) ∷ [])) }
-    ensures spelled { OnOk result (AllByRecursion IsSendable queue.old.items → AllByRecursion IsSendable queue.new.items) }
+    ensures queue { OnOk result (messages_of queue.new.items ≡ messages_of queue.old.items ++ inward number (effect_of (outgoing_of one) ∷ [])) }
+    ensures spelled { OnOk result (AllByRecursion IsSendable (messages_of queue.old.items) → AllByRecursion IsSendable (messages_of queue.new.items)) }
 {
     match one {
         Handed::Say(body) => out.push(Output::Say(body)),
         Handed::Send { to, message } => {
             if to == number {
-                queue.push(Box::into_inner(message))?;
+                queue.push(message)?;
                 Ok(())
             } else {
                 send(alloc, to, &message, out)
@@ -87,11 +87,11 @@ pub fn put_out(
     number: u8,
     outs: Outgoings,
     out: &mut Outputs,
-    queue: &mut Vec<Message>,
+    queue: &mut Vec<Box<Message>>,
 ) -> Result<(), AllocError>
     ensures puts { OnOk result (PutsOut (outward number (effects_of outs)) out.old out.new) }
-    ensures queue { OnOk result (queue.new.items ≡ queue.old.items ++ inward number (effects_of outs)) }
-    ensures spelled { OnOk result (AllByRecursion IsSendable queue.old.items → AllByRecursion IsSendable queue.new.items) }
+    ensures queue { OnOk result (messages_of queue.new.items ≡ messages_of queue.old.items ++ inward number (effects_of outs)) }
+    ensures spelled { OnOk result (AllByRecursion IsSendable (messages_of queue.old.items) → AllByRecursion IsSendable (messages_of queue.new.items)) }
 {
     for one in outs.into_vec() {
         put_one(alloc, number, one, out, queue)?;

@@ -7,7 +7,7 @@ ghost use Rattle.arj_journal.specs.declared.header.Header.{Header};
 ghost use Rattle.arj_msg.specs.Sendable.{IsSendable};
 ghost use Rattle.arj_core.specs.Steps.{CountsStep};
 ghost use Rattle.arj_node.specs.Goes.{Goes, GoesOn};
-ghost use Rattle.arj_node.specs.Outgoing.{effects_of, loud};
+ghost use Rattle.arj_node.specs.Outgoing.{effects_of, loud, messages_of};
 ghost use Rattle.arj_node.specs.Ran.{IsCut, disk_after};
 ghost use Rattle.arj_protocol.specs.Effect as effect;
 ghost use Rattle.arj_protocol.specs.Node as protocol;
@@ -25,17 +25,17 @@ fn handle_one<D: Disk, P: Parts>(
     number: u8,
     parts: &mut P,
     disk: &mut D,
-    m: Message,
+    m: Box<Message>,
     out: &mut Outputs,
-    queue: &mut Vec<Message>,
+    queue: &mut Vec<Box<Message>>,
 ) -> Result<(), CoreFault>
     requires stands { (header : Header) × (h : protocol.Here) × P.stands header number parts.old (D.file disk.old) h }
-    requires spelled { IsSendable m }
+    requires spelled { IsSendable m.value }
     ensures done { OnOk result ((header : Header) (h : protocol.Here) → P.stands header number parts.old (D.file disk.old) h
-        → GoesOn (P.stands header number parts.new (D.file disk.new)) (protocol.ran_handled number h (protocol.taken number h.disk h.parts number m)) out.old out.new queue.old.items queue.new.items) }
+        → GoesOn (P.stands header number parts.new (D.file disk.new)) (protocol.ran_handled number h (protocol.taken number h.disk h.parts number m.value)) out.old out.new (messages_of queue.old.items) (messages_of queue.new.items)) }
     ensures halted { IsErrOf result CoreFault.Halted → (header : Header) (h : protocol.Here) → P.stands header number parts.old (D.file disk.old) h
-        → IsCut (P.rests header number (D.file disk.new)) (protocol.ran_handled number h (protocol.taken number h.disk h.parts number m)).outs h.disk out.old out.new }
-    ensures spelled { OnOk result (AllByRecursion IsSendable queue.old.items → AllByRecursion IsSendable queue.new.items) }
+        → IsCut (P.rests header number (D.file disk.new)) (protocol.ran_handled number h (protocol.taken number h.disk h.parts number m.value)).outs h.disk out.old out.new }
+    ensures spelled { OnOk result (AllByRecursion IsSendable (messages_of queue.old.items) → AllByRecursion IsSendable (messages_of queue.new.items)) }
     ensures counts { CountsStep (counts D.Disk disk.old) (counts D.Disk disk.new) result CoreFault.Halted }
 {
     let mut outs = Outgoings::new(alloc);
@@ -58,17 +58,17 @@ fn handle_all<D: Disk, P: Parts>(
     number: u8,
     parts: &mut P,
     disk: &mut D,
-    messages: Vec<Message>,
+    messages: Vec<Box<Message>>,
     out: &mut Outputs,
-    queue: &mut Vec<Message>,
+    queue: &mut Vec<Box<Message>>,
 ) -> Result<(), CoreFault>
     requires stands { (header : Header) × (h : protocol.Here) × P.stands header number parts.old (D.file disk.old) h }
-    requires spelled { AllByRecursion IsSendable messages.items }
+    requires spelled { AllByRecursion IsSendable (messages_of messages.items) }
     ensures done { OnOk result ((header : Header) (h : protocol.Here) → P.stands header number parts.old (D.file disk.old) h
-        → GoesOn (P.stands header number parts.new (D.file disk.new)) (protocol.handle_all number messages.items h) out.old out.new queue.old.items queue.new.items) }
+        → GoesOn (P.stands header number parts.new (D.file disk.new)) (protocol.handle_all number (messages_of messages.items) h) out.old out.new (messages_of queue.old.items) (messages_of queue.new.items)) }
     ensures halted { IsErrOf result CoreFault.Halted → (header : Header) (h : protocol.Here) → P.stands header number parts.old (D.file disk.old) h
-        → IsCut (P.rests header number (D.file disk.new)) (protocol.handle_all number messages.items h).outs h.disk out.old out.new }
-    ensures spelled { OnOk result (AllByRecursion IsSendable queue.old.items → AllByRecursion IsSendable queue.new.items) }
+        → IsCut (P.rests header number (D.file disk.new)) (protocol.handle_all number (messages_of messages.items) h).outs h.disk out.old out.new }
+    ensures spelled { OnOk result (AllByRecursion IsSendable (messages_of queue.old.items) → AllByRecursion IsSendable (messages_of queue.new.items)) }
     ensures counts { CountsStep (counts D.Disk disk.old) (counts D.Disk disk.new) result CoreFault.Halted }
 {
     for m in messages {
@@ -84,15 +84,15 @@ fn round<D: Disk, P: Parts>(
     parts: &mut P,
     disk: &mut D,
     out: &mut Outputs,
-    queue: &mut Vec<Message>,
+    queue: &mut Vec<Box<Message>>,
 ) -> Result<(), CoreFault>
     requires stands { (header : Header) × (h : protocol.Here) × P.stands header number parts.old (D.file disk.old) h }
-    requires spelled { AllByRecursion IsSendable queue.old.items }
+    requires spelled { AllByRecursion IsSendable (messages_of queue.old.items) }
     ensures done { OnOk result ((header : Header) (h : protocol.Here) → P.stands header number parts.old (D.file disk.old) h
-        → GoesOn (P.stands header number parts.new (D.file disk.new)) (protocol.handle_all number queue.old.items h) out.old out.new [] queue.new.items) }
+        → GoesOn (P.stands header number parts.new (D.file disk.new)) (protocol.handle_all number (messages_of queue.old.items) h) out.old out.new [] (messages_of queue.new.items)) }
     ensures halted { IsErrOf result CoreFault.Halted → (header : Header) (h : protocol.Here) → P.stands header number parts.old (D.file disk.old) h
-        → IsCut (P.rests header number (D.file disk.new)) (protocol.handle_all number queue.old.items h).outs h.disk out.old out.new }
-    ensures spelled { OnOk result (AllByRecursion IsSendable queue.new.items) }
+        → IsCut (P.rests header number (D.file disk.new)) (protocol.handle_all number (messages_of queue.old.items) h).outs h.disk out.old out.new }
+    ensures spelled { OnOk result (AllByRecursion IsSendable (messages_of queue.new.items)) }
     ensures counts { CountsStep (counts D.Disk disk.old) (counts D.Disk disk.new) result CoreFault.Halted }
 {
     let messages = std::mem::replace(queue, Vec::new(alloc));

@@ -27,14 +27,14 @@ impl<O: ObjectStore> NodeParts<O> {
         &mut self,
         disk: &mut D,
         from: u8,
-        m: Message,
+        m: Box<Message>,
         outs: &mut Outgoings,
     ) -> Result<bool, CoreFault>
         requires stands { StandsSome O.ObjectStore self.old (D.file disk.old) }
-        requires sendable { IsSendable m }
-        requires meant { answer_is_meant self.old.coord (answers m) ≡ true }
-        ensures done { IfOk result (Takes O.ObjectStore (answered_here from m) (record { old = self.old; new = self.new; file = D.file disk.old; left = D.file disk.new; before = outs.old; after = outs.new })) }
-        ensures halted { IsErrOf result CoreFault.Halted → Halts O.ObjectStore (λ n h. outs_of (answered_here from m n h)) (record { old = self.old; new = self.new; file = D.file disk.old; left = D.file disk.new; before = outs.old; after = outs.new }) }
+        requires sendable { IsSendable m.value }
+        requires meant { answer_is_meant self.old.coord (answers m.value) ≡ true }
+        ensures done { IfOk result (Takes O.ObjectStore (answered_here from m.value) (record { old = self.old; new = self.new; file = D.file disk.old; left = D.file disk.new; before = outs.old; after = outs.new })) }
+        ensures halted { IsErrOf result CoreFault.Halted → Halts O.ObjectStore (λ n h. outs_of (answered_here from m.value n h)) (record { old = self.old; new = self.new; file = D.file disk.old; left = D.file disk.new; before = outs.old; after = outs.new }) }
         ensures counts { CountsStep (counts D.Disk disk.old) (counts D.Disk disk.new) result CoreFault.Halted }
     {
         if !asker_has_room(&self.coord, &m) {

@@ -105,7 +105,7 @@ fn perform_one<D: Disk>(
             Ok(())
         }
         Effect::Send(to, message) => {
-            outs.send(to, message)?;
+            outs.forward(to, message)?;
             Ok(())
         }
         Effect::PutRecord(intent) => put_record(alloc, records, disk, &intent, outs),

@@ -32,7 +32,7 @@ fn tell_one(effect: Effect, outs: &mut Outgoings) -> Result<(), AllocError>
 {
     match effect {
         Effect::Say(body) => outs.say(body),
-        Effect::Send(to, message) => outs.send(to, message),
+        Effect::Send(to, message) => outs.forward(to, message),
         Effect::PutRecord(_) | Effect::RemoveRecord(_) => Ok(()),
     }
 }

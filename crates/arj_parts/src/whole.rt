@@ -66,7 +66,7 @@ impl<O: ObjectStore + Drop> Parts for NodeParts<O> {
         &mut self,
         disk: &mut D,
         from: u8,
-        m: Message,
+        m: Box<Message>,
         outs: &mut Outgoings,
     ) -> Result<bool, CoreFault> {
         self.take_message(disk, from, m, outs)

@@ -95,12 +95,12 @@ impl Keepings {
         &mut self,
         steps: CallSteps,
         from: u8,
-        message: Message,
+        message: Box<Message>,
         free: bool,
     ) -> Result<CallStep, AllocError>
-        requires { IsSendable message }
-        ensures came { IfOk result (λ step. came_of step ≡ (hears free (keeping_in steps.x self.old) steps (heard_in from message steps)).came) }
-        ensures keeping { OnOk result (self.new ≡ put_number steps.x (hears free (keeping_in steps.x self.old) steps (heard_in from message steps)).keeping self.old) }
+        requires { IsSendable message.value }
+        ensures came { IfOk result (λ step. came_of step ≡ (hears free (keeping_in steps.x self.old) steps (heard_in from message.value steps)).came) }
+        ensures keeping { OnOk result (self.new ≡ put_number steps.x (hears free (keeping_in steps.x self.old) steps (heard_in from message.value steps)).keeping self.old) }
     {
         let x = steps.object();
         let mut keeping = self.take(x);
@@ -182,12 +182,12 @@ fn answered(
     alloc: Global,
     steps: CallSteps,
     from: u8,
-    message: Message,
+    message: Box<Message>,
     free: bool,
     keeping: &mut Keeping,
 ) -> Result<CallStep, AllocError>
-    ensures came { IfOk result (λ step. came_of step ≡ (hears free keeping.old steps (heard_in from message steps)).came) }
-    ensures keeping { OnOk result (keeping.new ≡ (hears free keeping.old steps (heard_in from message steps)).keeping) }
+    ensures came { IfOk result (λ step. came_of step ≡ (hears free keeping.old steps (heard_in from message.value steps)).came) }
+    ensures keeping { OnOk result (keeping.new ≡ (hears free keeping.old steps (heard_in from message.value steps)).keeping) }
 {
     match steps.answered(alloc, from, message, keeping, free) {
         Ok(step) => Ok(step),

@@ -143,12 +143,12 @@ impl Root {
         &mut self,
         steps: CallSteps,
         from: u8,
-        message: Message,
+        message: Box<Message>,
         free: bool,
     ) -> Result<CallStep, AllocError>
-        requires { IsSendable message }
-        ensures came { IfOk result (λ step. came_of step ≡ (hears free (coord.keeping_of steps.x self.old) steps (heard_in from message steps)).came) }
-        ensures root { OnOk result (IfSome (heard_in from message steps) (λ r. self.new ≡ root_moved steps r (answered free ((coord.keeping_of steps.x self.old).kept) steps.goal steps.at r) self.old)) }
+        requires { IsSendable message.value }
+        ensures came { IfOk result (λ step. came_of step ≡ (hears free (coord.keeping_of steps.x self.old) steps (heard_in from message.value steps)).came) }
+        ensures root { OnOk result (IfSome (heard_in from message.value steps) (λ r. self.new ≡ root_moved steps r (answered free ((coord.keeping_of steps.x self.old).kept) steps.goal steps.at r) self.old)) }
     {
         self.note_granted(steps.granted(&message))?;
         let step = self.keeping.answered(steps, from, message, free)?;

@@ -10,14 +10,14 @@ use Rattle.arj_asking.proofs.answers.hear_call.Goals as goal
 pub step_call-requires : goal.step_call-requires
 step_call-requires c =
     let s = c.args.steps in
-    heard_fits c.in_ok-caller.caller s c.args.delivery.free (keeping_of s.x (root_at (root_of s.path) c.args.coord.now)) (heard_in c.args.delivery.from c.args.delivery.message s) (came_of c.in_ok-step.step) c.requires.node c.in_ok-caller.ensures
+    heard_fits c.in_ok-caller.caller s c.args.delivery.free (keeping_of s.x (root_at (root_of s.path) c.args.coord.now)) (heard_in c.args.delivery.from c.args.delivery.message.value s) (came_of c.in_ok-step.step) c.requires.node c.in_ok-caller.ensures
     c.requires.meant c.in_ok-step.ensures.came
 
 pub returns-clause-part : goal.returns-clause-part
 returns-clause-part c =
     let s = c.args.steps in
     on_ok_weaker c.step_call.result
-    (λ steps d idle free. hear_call_so (λ t. c.step_call.new.coord ≡ t.part) s c.args.delivery.free (heard_in c.args.delivery.from c.args.delivery.message s) c.args.coord.now d c.answered.new.self (came_of c.in_ok-step.step)
+    (λ steps d idle free. hear_call_so (λ t. c.step_call.new.coord ≡ t.part) s c.args.delivery.free (heard_in c.args.delivery.from c.args.delivery.message.value s) c.args.coord.now d c.answered.new.self (came_of c.in_ok-step.step)
     idle free c.in_ok-step.ensures.came c.in_ok-step.ensures.part (λ next e came mid. steps s next e c.in_ok-caller.ensures c.requires.room came mid))
     c.step_call.ensures.part
 
@@ -25,6 +25,6 @@ pub returns-clause-outs : goal.returns-clause-outs
 returns-clause-outs c =
     let s = c.args.steps in
     on_ok_weaker c.step_call.result
-    (λ steps d idle free. hear_call_so (λ t. c.step_call.new.outs ≡ c.args.outs.now ++ t.outs) s c.args.delivery.free (heard_in c.args.delivery.from c.args.delivery.message s) c.args.coord.now d c.answered.new.self (came_of c.in_ok-step.step)
+    (λ steps d idle free. hear_call_so (λ t. c.step_call.new.outs ≡ c.args.outs.now ++ t.outs) s c.args.delivery.free (heard_in c.args.delivery.from c.args.delivery.message.value s) c.args.coord.now d c.answered.new.self (came_of c.in_ok-step.step)
     idle free c.in_ok-step.ensures.came c.in_ok-step.ensures.part (λ next e came mid. steps s next e c.in_ok-caller.ensures c.requires.room came mid))
     c.step_call.ensures.outs

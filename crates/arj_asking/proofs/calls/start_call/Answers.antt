@@ -1,8 +1,9 @@
 use Rattle.std.proofs.Common.{◌∙◌, ap, ◌≡◌}
+use Rattle.std.proofs.lemmas.Result.{IfOk-weaker}
 use Rattle.arj_asking.proofs.Trees.{avoid_so, known_so, root_there}
 use Rattle.arj_asking.specs.Calls.{renewed_at}
 use Rattle.arj_protocol.specs.Ask.{top_of}
-use Rattle.arj_protocol.specs.Asking.{known_at_start, renewed}
+use Rattle.arj_protocol.specs.Asking.{call_steps, known_at_start, renewed}
 use Rattle.arj_protocol.specs.Call.{Run, start}
 use Rattle.arj_protocol.specs.Coord.{Coord, Root, keeping_of, kept_of, on_root, with_keeping, root_at}
 use Rattle.arj_protocol.specs.Tree.{root_of}
@@ -13,7 +14,10 @@ use Rattle.arj_asking.proofs.calls.start_call.Goals as goal
 pub returns-clause-part : goal.returns-clause-part
 returns-clause-part c =
     let old = c.args.coord.now in
-    c.in_ok-renew.ensures ∙ ap (λ (u : Uid). on_root u (λ r. with_keeping c.args.x (renewed c.args.free (keeping_of c.args.x r) ((keeping_of c.args.x r).kept)) r) old) c.root-root.ensures
+    IfOk-weaker c.start.result (λ s. s ≡ start c.args.path.now c.args.x (Run c.args.op) c.in_ok-known.known c.avoid-avoid.result c.args.req)
+    (λ _. c.renew.new.self ≡ on_root (root_of c.args.path.now) (with_keeping c.args.x (renewed_at c.args.free c.args.path.now c.args.x old)) old)
+    (λ _ _. c.in_ok-renew.ensures ∙ ap (λ (u : Uid). on_root u (λ r. with_keeping c.args.x (renewed c.args.free (keeping_of c.args.x r) ((keeping_of c.args.x r).kept)) r) old) c.root-root.ensures)
+    c.start.ensures
 
 pub returns-clause-steps : goal.returns-clause-steps
 returns-clause-steps c =
@@ -33,4 +37,6 @@ returns-clause-steps c =
     c.in_ok-known.ensures ∙ ap (λ (t : Uid). known_at_start t x (root_at u mid) (of_tree mid.tree) (kept_of x (root_at u mid))) top_is
     ∙ known_so (top_of p) x k (root_at (root_of p) old) (root_at u mid) old mid.tree has_is tree_is in
     let avoid_is : c.avoid-avoid.result ≡ k.avoid = c.avoid-avoid.ensures ∙ avoid_so x k (root_at (root_of p) old) (root_at u mid) has_is in
-    c.start.ensures ∙ (λ i. start p x (Run c.args.op) (known_is i) (avoid_is i) c.args.req)
+    IfOk-weaker c.start.result (λ s. s ≡ start p x (Run c.args.op) c.in_ok-known.known c.avoid-avoid.result c.args.req)
+    (λ s. s ≡ call_steps p x c.args.op c.args.req (root_at (root_of p) old) old k)
+    (λ s is. is ∙ (λ i. start p x (Run c.args.op) (known_is i) (avoid_is i) c.args.req)) c.start.ensures

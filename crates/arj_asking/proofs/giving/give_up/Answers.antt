@@ -27,11 +27,11 @@ returns-in-Calling-clause-outs c =
 pub returns-in-Committing-clause-part : goal.returns-in-Committing-clause-part
 returns-in-Committing-clause-part c =
     on_ok_weaker c.give_up_commit.result
-    (λ gave. gives_up_commit_so (λ t. c.give_up_commit.new.coord ≡ t.part) c.args.intents.now c.args.coord.now c.take.new.self c.args.action (machine_of c.in-Committing.commit) c.in-Committing.ensures.taken c.fits.ensures c.take.ensures.idle gave)
+    (λ gave. gives_up_commit_so (λ t. c.give_up_commit.new.coord ≡ t.part) c.args.intents.now c.args.coord.now c.take.new.self c.args.action (machine_of c.in-Committing.commit.value) c.in-Committing.ensures.taken c.fits.ensures c.take.ensures.idle gave)
     c.give_up_commit.ensures.part
 
 pub returns-in-Committing-clause-outs : goal.returns-in-Committing-clause-outs
 returns-in-Committing-clause-outs c =
     on_ok_weaker c.give_up_commit.result
-    (λ gave. gives_up_commit_so (λ t. c.give_up_commit.new.outs ≡ c.args.outs.now ++ t.outs) c.args.intents.now c.args.coord.now c.take.new.self c.args.action (machine_of c.in-Committing.commit) c.in-Committing.ensures.taken c.fits.ensures c.take.ensures.idle gave)
+    (λ gave. gives_up_commit_so (λ t. c.give_up_commit.new.outs ≡ c.args.outs.now ++ t.outs) c.args.intents.now c.args.coord.now c.take.new.self c.args.action (machine_of c.in-Committing.commit.value) c.in-Committing.ensures.taken c.fits.ensures c.take.ensures.idle gave)
     c.give_up_commit.ensures.outs

@@ -13,21 +13,21 @@ use Rattle.arj_protocol.specs.Step.{frame_step}
 use Rattle.arj_node.proofs.delivery.deliver.Goals as goal
 
 pub take-requires-clause-spelled : goal.take-requires-clause-spelled
-take-requires-clause-spelled g c = in_form_sends c.in-Ok.m c.in-Ok.ensures.found.0
+take-requires-clause-spelled g c = in_form_sends c.in-Ok.m.value c.in-Ok.ensures.found.0
 
 pub returns-in-Ok-clause-done : goal.returns-in-Ok-clause-done
 returns-in-Ok-clause-done g c =
-    let is : message_of c.args.bytes.now ≡ Some c.in-Ok.m =
-    ap message_of (sym c.in-Ok.ensures.found.1) ∙ message_back c.in-Ok.m c.in-Ok.ensures.found.0 in
+    let is : message_of c.args.bytes.now ≡ Some c.in-Ok.m.value =
+    ap message_of (sym c.in-Ok.ensures.found.1) ∙ message_back c.in-Ok.m.value c.in-Ok.ensures.found.0 in
     on_ok_weaker c.take.result
     (λ (done : (header : Header) (h : Here) → g.P.Parts.stands header c.args.number c.args.parts.now (g.D.Disk.file c.args.disk.now) h
-    → Steps c.args.number (g.P.Parts.stands header c.args.number c.take.new.parts (g.D.Disk.file c.take.new.disk)) (frame_step c.args.frame c.args.from (up_node c.args.number h) h.parts (Some c.in-Ok.m)) c.args.out.now c.take.new.out).
+    → Steps c.args.number (g.P.Parts.stands header c.args.number c.take.new.parts (g.D.Disk.file c.take.new.disk)) (frame_step c.args.frame c.args.from (up_node c.args.number h) h.parts (Some c.in-Ok.m.value)) c.args.out.now c.take.new.out).
     λ header h stands. subst (λ o. Steps c.args.number (g.P.Parts.stands header c.args.number c.take.new.parts (g.D.Disk.file c.take.new.disk)) (frame_step c.args.frame c.args.from (up_node c.args.number h) h.parts o) c.args.out.now c.take.new.out) (sym is) (done header h stands)) c.take.ensures.done
 
 pub returns-in-Ok-clause-halted : goal.returns-in-Ok-clause-halted
 returns-in-Ok-clause-halted g c = λ halted header h stands.
-    let is : message_of c.args.bytes.now ≡ Some c.in-Ok.m =
-    ap message_of (sym c.in-Ok.ensures.found.1) ∙ message_back c.in-Ok.m c.in-Ok.ensures.found.0 in
+    let is : message_of c.args.bytes.now ≡ Some c.in-Ok.m.value =
+    ap message_of (sym c.in-Ok.ensures.found.1) ∙ message_back c.in-Ok.m.value c.in-Ok.ensures.found.0 in
     subst (λ o. IsCut (g.P.Parts.rests header c.args.number (g.D.Disk.file c.take.new.disk)) (frame_step c.args.frame c.args.from (up_node c.args.number h) h.parts o).halting h.disk c.args.out.now c.take.new.out) (sym is) (c.take.ensures.halted halted header h stands)
 
 pub returns-in_ok-push-in-Err-At-clause-done : goal.returns-in_ok-push-in-Err-At-clause-done

@@ -1,4 +1,4 @@
-use Rattle.std.proofs.Common.{◌≡◌, ◌∙◌, sym, ap, Err}
+use Rattle.std.proofs.Common.{◌≡◌, sym, ap, Err}
 use Rattle.arj_core.specs.declared.node.CoreFault.TheVariants.{Halted}
 use Rattle.arj_node.proofs.Cores.{down_cut, down_did, none_there}
 use Rattle.arj_node.proofs.Handled.{same_fault}

@@ -1,4 +1,4 @@
-use Rattle.std.proofs.Common.{◌≡◌, ◌∙◌, sym, ap}
+use Rattle.std.proofs.Common.{◌∙◌, sym, ap}
 use Rattle.std.specs.Prelude.{IsErrOf}
 use Rattle.arj_core.specs.declared.node.CoreFault.TheVariants.{Halted}
 use Rattle.arj_core.specs.Steps.{input_of, message_of}

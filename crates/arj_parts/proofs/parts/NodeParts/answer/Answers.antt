@@ -18,9 +18,9 @@ returns-then-not-branch-clause-done g c =
     let s = c.self.inside.services in
     let d = c.self.inside.coord in
     let r = c.self.inside.records in
-    let a = answers c.args.m in
+    let a = answers c.args.m.value in
     let void = sym c.if-not-branch.true ∙ c.in_ok-heard.ensures.taken in
-    subst (λ k. Takes o (answered_here c.args.from c.args.m) (record {
+    subst (λ k. Takes o (answered_here c.args.from c.args.m.value) (record {
       old = k;
       new =
           record { services = s; coord = c.heard.new.coord; records = r };
@@ -41,8 +41,8 @@ returns-clause-done g c =
     let s = c.self.inside.services in
     let d = c.self.inside.coord in
     let r = c.self.inside.records in
-    let a = answers c.args.m in
-    subst (λ k. Takes o (answered_here c.args.from c.args.m) (record {
+    let a = answers c.args.m.value in
+    subst (λ k. Takes o (answered_here c.args.from c.args.m.value) (record {
       old = k;
       new =
           record { services = s; coord = c.heard.new.coord; records = c.perform.new.records };
@@ -64,8 +64,8 @@ returns-in_err-perform-clause-halted g c = λ halted.
     let s = c.self.inside.services in
     let d = c.self.inside.coord in
     let r = c.self.inside.records in
-    let a = answers c.args.m in
-    subst (λ k. Halts o (λ n h. outs_of (answered_here c.args.from c.args.m n h)) (record {
+    let a = answers c.args.m.value in
+    subst (λ k. Halts o (λ n h. outs_of (answered_here c.args.from c.args.m.value n h)) (record {
       old = k;
       new =
           record { services = s; coord = c.heard.new.coord; records = c.perform.new.records };
