@@ -17,5 +17,6 @@ mod WrongEnds
 pub mod WrongEvents
 mod WrongNodes
 mod WrongRuns
+mod WrongQuiesces
 mod WrongShows
 mod runs

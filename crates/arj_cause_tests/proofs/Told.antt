@@ -1,11 +1,13 @@
--- What each field of a journal's causes, and of its form, refuses: a line of an event behind those before it, and lines of whole runs that are changed.
-use Rattle.std.specs.Prelude.{◌≡◌, ◌<◌, ◌^◌, refl, ℕ, List, [], ◌∷◌, Bool, codes}
+-- What each field of a journal's causes, and of its form, refuses: a line of an event behind those before it, and lines of whole runs
+-- that are changed.
+use Rattle.std.specs.Prelude.{◌≡◌, ◌++◌, ◌<◌, ◌^◌, refl, ℕ, List, [], ◌∷◌, Bool, codes}
 use Rattle.std.proofs.Common.{arith}
 use Rattle.arj_base.specs.declared.mode.Mode.TheVariants.{Exclude, Read, Write}
 use Rattle.arj_base.specs.declared.mode.End.TheVariants.{Commit}
 use Rattle.arj_class.specs.declared.op.Op.TheVariants as op
 use Rattle.arj_journal.specs.declared.body.Body.{Body}
 use Rattle.arj_journal.specs.declared.body.Body.TheVariants as body
+use Rattle.arj_journal.specs.declared.body.Cause.TheVariants as cause
 use Rattle.arj_journal.specs.declared.body.Difference.TheVariants as difference
 use Rattle.arj_journal.specs.declared.body.FrameKind.TheVariants as frame
 use Rattle.arj_journal.specs.declared.body.Role.TheVariants as role
@@ -14,15 +16,20 @@ use Rattle.arj_journal.specs.declared.event.Event.TheVariants as event
 use Rattle.arj_model.specs.CauseSpans.{Here}
 use Rattle.arj_model.specs.Past.{Past, nothing_yet}
 use Rattle.arj_law_cause.specs.form.Form.{AreInForm}
-use Rattle.arj_law_cause.specs.kinds.Kinds.{is_armed, is_commit_done, is_dropped, is_found, is_got, is_halted, is_limit, is_opening}
-use Rattle.arj_law_cause.specs.kinds.Kinds.{is_granted_object, is_quiet, is_sent, is_up, is_void}
+use Rattle.arj_law_cause.specs.kinds.Kinds.{is_active, is_armed, is_bare_abort, is_bound, is_commit_done, is_committed, is_dropped}
+use Rattle.arj_law_cause.specs.kinds.Kinds.{is_entry_prepared}
+use Rattle.arj_law_cause.specs.kinds.Kinds.{is_found, is_got, is_granted_entry, is_granted_object, is_halted, is_limit, is_listed_abort}
+use Rattle.arj_law_cause.specs.kinds.Kinds.{is_lock_lowered, is_lost_commit, is_met_abort, is_opening, is_prepared, is_quiet, is_sent}
+use Rattle.arj_law_cause.specs.kinds.Kinds.{is_up, is_void}
 use Rattle.arj_law_cause.specs.kinds.Rows.{row, tested}
-use Rattle.arj_law_cause.specs.kinds.Tests.{is_granted_so}
+use Rattle.arj_law_cause.specs.kinds.Tests.{is_granted_so, is_committed_so, is_prepared_so}
 use Rattle.arj_law_cause.specs.rows.Lines.{answer_fits}
 use Rattle.arj_law_cause.specs.waits.replies.Ends.{RepliesStep}
-use Rattle.arj_cause_tests.proofs.Words.{Run, after, end_from, instead, l, of_other_event, run, u, without}
-use Rattle.arj_cause_tests.proofs.Worked.{conflict, exclusion, inclusion, naming_stopped, nested_abort, rebinding, stop_at_decision_done}
-use Rattle.arj_cause_tests.proofs.Rare.{changed_bind_naming}
+use Rattle.arj_cause_tests.proofs.Words.{Run, after, b, end_from, instead, l, of_other_event, run, u, without}
+use Rattle.arj_cause_tests.proofs.Worked.{conflict, exclusion, inclusion, lost_lock, naming_stopped, nested_abort, no_store_left}
+use Rattle.arj_cause_tests.proofs.Worked.{rebinding}
+use Rattle.arj_cause_tests.proofs.Worked.{stop_at_decision_done}
+use Rattle.arj_cause_tests.proofs.Rare.{aborted_conflict, aborted_lost, changed_bind_naming}
 use Rattle.arj_cause_tests.proofs.Rarer.{conflict_pending}
 use Rattle.arj_cause_tests.proofs.WrongEvents.{begins, two_nodes}
 use Rattle.arj_cause_tests.proofs.WrongShows.{failing_from}
@@ -76,6 +83,14 @@ stores_conflict = refl
 stores_lock : failing answer_fits (instead 47 (body.Conflict (l 66) (u 2 1 1) Exclude 3) conflict_pending) ≡ 47 ∷ []
 stores_lock = refl
 
+-- it names who began, but whose commit wasn't called
+stores_holder : failing answer_fits (instead 47 (body.Conflict (l 66) (u 3 1 1) Write 3) conflict_pending) ≡ 47 ∷ []
+stores_holder = refl
+
+-- nothing of it was prepared there
+stores_pending : failing answer_fits (instead 31 (body.Prepared 3 (u 2 1 1) role.Names) conflict_pending) ≡ 47 ∷ []
+stores_pending = refl
+
 -- ---- what nodes do, and what goes between them
 
 -- `openings`: no action begins, and no commit is called
@@ -84,6 +99,13 @@ openings = refl
 
 no_commit_called : failing_of is_opening (of_other_event 5 event.Settle conflict) ≡ 11 ∷ []
 no_commit_called = refl
+
+-- `committed`: a nested action in another event, and a top before its commit is called
+committed_apart : failing (tested is_committed_so (λ h. is_committed)) (of_other_event 15 event.Settle rebinding) ≡ 36 ∷ []
+committed_apart = refl
+
+committed_early : failing (tested is_committed_so (λ h. is_committed)) (after 37 (body.Committed (l 65) ∷ []) rebinding) ≡ 38 ∷ 47 ∷ []
+committed_early = refl
 
 -- `armed`: nothing is armed
 armed : failing_of is_armed (of_other_event 5 event.Settle stop_at_decision_done) ≡ 15 ∷ []
@@ -98,18 +120,140 @@ up : failing_of is_up (instead 48 (body.Up 1 1) naming_stopped) ≡ 48 ∷ []
 up = refl
 
 -- `granted`: once more, to an action that didn't begin, and against another one's lock
-granted_again : failing (tested is_granted_so (λ h. is_granted_object)) (after 18 (body.Granted 2 (u 2 1 1) (u 0 0 1) Write ∷ []) conflict_pending) ≡ 19 ∷ []
+granted_again : failing_of is_granted_object (after 18 (body.Granted 2 (u 2 1 1) (u 0 0 1) Write ∷ []) conflict_pending) ≡ 19 ∷ []
 granted_again = refl
 
-granted_early : failing (tested is_granted_so (λ h. is_granted_object)) (after 18 (body.Granted 2 (u 3 1 1) (u 0 0 1) Write ∷ []) conflict_pending) ≡ 19 ∷ []
+granted_early : failing_of is_granted_object (after 18 (body.Granted 2 (u 3 1 1) (u 0 0 1) Write ∷ []) conflict_pending) ≡ 19 ∷ []
 granted_early = refl
 
-granted_against : failing (tested is_granted_so (λ h. is_granted_object)) (after 29 (body.Granted 2 (u 3 1 1) (u 0 0 1) Read ∷ []) conflict_pending) ≡ 30 ∷ []
+granted_against : failing_of is_granted_object (after 29 (body.Granted 2 (u 3 1 1) (u 0 0 1) Read ∷ []) conflict_pending) ≡ 30 ∷ []
 granted_against = refl
+
+-- for no call that was accepted, of another mode, and in a restart
+granted_uncalled : failing_of is_granted_object (after 8 (body.Granted 1 (u 1 1 2) (u 0 0 1) Write ∷ []) nested_abort) ≡ 9 ∷ 10 ∷ []
+granted_uncalled = refl
+
+granted_mode : failing_of is_granted_object (instead 12 (body.Granted 2 (u 1 1 1) (u 0 0 1) Write) lost_lock) ≡ 12 ∷ []
+granted_mode = refl
+
+granted_restarting : failing_of is_granted_object (after 17 (body.Granted 2 (u 1 1 1) (u 0 0 1) Read ∷ []) lost_lock) ≡ 18 ∷ []
+granted_restarting = refl
+
+-- `locked`: before a call was accepted, at another node, against another top's lock, to an action that is no top, and again
+abbrev locked : Run → List ℕ
+locked = failing (tested is_granted_so (λ h. is_granted_entry))
+
+locked_so : locked nested_abort ++ (locked conflict ++ (locked rebinding ++ (locked naming_stopped ++ locked exclusion))) ≡ []
+locked_so = refl
+
+locked_early : locked (after 1 (body.Granted 1 (u 1 1 1) (u 0 1 1) Write ∷ []) nested_abort) ≡ 2 ∷ 3 ∷ []
+locked_early = refl
+
+locked_elsewhere : locked (instead 2 (body.Granted 2 (u 1 1 1) (u 0 1 1) Write) nested_abort) ≡ 2 ∷ []
+locked_elsewhere = refl
+
+locked_against : locked (instead 9 (body.Granted 1 (u 1 1 2) (u 0 1 1) Write) conflict) ≡ 9 ∷ []
+locked_against = refl
+
+locked_below : locked (after 9 (body.Granted 1 (u 1 1 2) (u 0 1 1) Read ∷ []) nested_abort) ≡ 10 ∷ []
+locked_below = refl
+
+locked_again : locked (after 9 (body.Granted 1 (u 1 1 2) (u 0 1 1) Read ∷ []) conflict) ≡ 10 ∷ []
+locked_again = refl
+
+-- for no store that was excluded
+locked_unmarked : locked (without 21 exclusion) ≡ 21 ∷ []
+locked_unmarked = refl
+
+-- `bound`: not the next binding, not the server in turn, and without a write lock
+bound : failing_of is_bound (instead 3 (body.Bound 1 (b 1 2) 1) conflict) ≡ 3 ∷ []
+bound = refl
+
+bound_turn : failing_of is_bound (instead 22 (body.Bound 1 (b 1 2) 2) rebinding) ≡ 22 ∷ []
+bound_turn = refl
+
+bound_unlocked : failing_of is_bound (without 21 rebinding) ≡ 21 ∷ []
+bound_unlocked = refl
+
+-- `active`: never bound so, for another node, and not newer than the copy before
+active : failing_of is_active (instead 4 (body.Active 1 1 (b 1 2)) conflict) ≡ 4 ∷ []
+active = refl
+
+active_elsewhere : failing_of is_active (instead 26 (body.Active 2 1 (b 1 2)) rebinding) ≡ 26 ∷ []
+active_elsewhere = refl
+
+active_again : failing_of is_active (after 4 (body.Active 1 1 (b 1 1) ∷ []) conflict) ≡ 5 ∷ []
+active_again = refl
+
+-- `lowered`: without a write lock, and before a copy was active
+lowered : failing_of is_lock_lowered (after 5 (body.Lowered 1 (u 1 1 1) (u 0 1 1) ∷ []) conflict) ≡ 6 ∷ []
+lowered = refl
+
+lowered_early : failing_of is_lock_lowered (after 3 (body.Lowered 1 (u 1 1 1) (u 0 1 1) ∷ []) conflict) ≡ 4 ∷ 6 ∷ []
+lowered_early = refl
+
+-- `lost`: of another node than was given up, of no commit, and in another event
+lost_node : failing_of is_lost_commit (instead 16 (body.Aborted (l 73) (cause.Lost 2)) aborted_lost) ≡ 16 ∷ []
+lost_node = refl
+
+lost_uncalled : failing_of is_lost_commit (without 12 aborted_lost) ≡ 15 ∷ []
+lost_uncalled = refl
+
+lost_unasked : failing_of is_lost_commit (of_other_event 5 event.Settle aborted_lost) ≡ 16 ∷ []
+lost_unasked = refl
+
+-- `included`: of commits that are refused another store than is listed, none that is listed so far, and one that the commit excludes
+included_other : failing_of is_listed_abort (instead 78 (body.Aborted (l 74) (cause.Listed 1 2)) inclusion) ≡ 78 ∷ []
+included_other = refl
+
+included_early : failing_of is_listed_abort (instead 52 (body.Aborted (l 73) (cause.Listed 1 3)) inclusion) ≡ 52 ∷ 78 ∷ []
+included_early = refl
+
+included_excluded : failing_of is_listed_abort (after 77 (body.Excluded (l 74) 1 3 ∷ []) inclusion) ≡ 79 ∷ []
+included_excluded = refl
+
+-- `bare`: a listed store isn't excluded, and of another object
+bare_kept : failing_of is_bare_abort (without 18 no_store_left) ≡ 18 ∷ []
+bare_kept = refl
+
+bare_other : failing_of is_bare_abort (instead 19 (body.Aborted (l 65) (cause.NoStores 2)) no_store_left) ≡ 19 ∷ []
+bare_other = refl
+
+-- `met`: another mode, another holder, another node, no answer, and of an action that has excluded nothing
+met_mode : failing (row is_met_abort) (instead 76 (body.Aborted (l 66) (cause.Conflict (u 2 1 1) Write 1)) aborted_conflict) ≡ 76 ∷ []
+met_mode = refl
+
+met_holder : failing (row is_met_abort) (instead 76 (body.Aborted (l 66) (cause.Conflict (u 4 1 1) Exclude 1)) aborted_conflict) ≡ 76 ∷ []
+met_holder = refl
+
+met_node : failing (row is_met_abort) (instead 76 (body.Aborted (l 66) (cause.Conflict (u 2 1 1) Exclude 2)) aborted_conflict) ≡ 76 ∷ []
+met_node = refl
+
+met_silent : failing (row is_met_abort) (instead 73 (body.Sent 25 1 3 frame.Acked) aborted_conflict) ≡ 76 ∷ []
+met_silent = refl
+
+met_nothing : failing (row is_met_abort) (without 67 aborted_conflict) ≡ 75 ∷ []
+met_nothing = refl
+
+-- by its own run it is so
+met_so : failing (row is_met_abort) aborted_conflict ≡ []
+met_so = refl
 
 -- `found`: in no restart
 found : failing_of is_found (after 24 (body.Recovered 1 (u 1 1 1) ∷ []) stop_at_decision_done) ≡ 25 ∷ []
 found = refl
+
+-- `prepared`: before its commit was called
+prepared_early : failing (tested is_prepared_so (λ h. is_prepared)) (after 11 (body.Prepared 2 (u 1 1 1) role.Store ∷ []) exclusion)
+    ≡ 12 ∷ []
+prepared_early = refl
+
+-- `listed`: nothing was excluded, and at another node than naming's
+listed : failing_of is_entry_prepared (without 21 exclusion) ≡ 22 ∷ []
+listed = refl
+
+listed_elsewhere : failing_of is_entry_prepared (instead 23 (body.Prepared 2 (u 1 1 1) role.Names) exclusion) ≡ 23 ∷ []
+listed_elsewhere = refl
 
 -- `done`: it isn't committed
 done : failing_of is_commit_done (after 17 (body.Done 2 (u 1 1 1) role.Store Commit ∷ []) exclusion) ≡ 18 ∷ []
@@ -145,4 +289,12 @@ quiet = refl
 
 -- an incarnation that has no 32 bits isn't in form
 too_great : AreInForm (record { event = 1; body = body.Up 1 4294967296 } ∷ []) → ⊥
-too_great all = let f = all.0 refl in let less : 4294967296 < 2 ^ 32 = f.1.1 in omega (arith, less)
+too_great all = let f = all.0 in let less : 4294967296 < 2 ^ 32 = f.1.1 in omega (arith, less)
+
+-- nor is a count of bindings
+too_many : AreInForm (record { event = 1; body = body.Bound 1 (record { inc = 1; count = 4294967296 }) 1 } ∷ []) → ⊥
+too_many all = let f = all.0 in let less : 4294967296 < 2 ^ 32 = f.1.1.1 in omega (arith, less)
+
+-- nor an entry that lists no store
+bare : AreInForm (record { event = 1; body = body.Entry 1 0 (1 ∷ []) [] } ∷ []) → ⊥
+bare all = let f = all.0 in cc f.1.3

@@ -116,7 +116,8 @@ other_object = refl
 other_root : lacking (instead 2 (body.Began (l 69) kind.Top (u 2 1 2) None) changed_bind_naming) ≡ 27 ∷ []
 other_root = refl
 
--- Ends: twice aborted, twice given up, a doomed action that commits, a commit that wasn't called, and an action that isn't serializing.
+-- Ends: twice aborted, twice given up, a commit that wasn't called, and an action that isn't serializing. A doomed nested action may commit,
+-- by the causes of its lines.
 
 aborted_twice : lacking (after 11 (body.Aborted (l 78) cause.Asked ∷ []) nested_abort) ≡ 12 ∷ []
 aborted_twice = refl
@@ -124,7 +125,7 @@ aborted_twice = refl
 gaveup_twice : lacking (after 20 (body.GaveUp (l 65) 3 ∷ []) exclusion) ≡ 21 ∷ []
 gaveup_twice = refl
 
-doomed_commits : lacking (instead 17 (body.Committed (l 78)) rebinding) ≡ 17 ∷ []
+doomed_commits : lacking (instead 17 (body.Committed (l 78)) rebinding) ≡ []
 doomed_commits = refl
 
 lost_uncalled : lacking (without 12 aborted_lost) ≡ 12 ∷ 14 ∷ 15 ∷ []

@@ -14,8 +14,8 @@ use Rattle.arj_model.specs.Past.{Past, at_start, next}
 use Rattle.arj_start.specs.Start.{Start, fresh}
 use Rattle.arj_law_cause.specs.kinds.Kinds.{is_abort_done, is_copy_shown, is_entry_shown, is_told, is_told_by_server}
 use Rattle.arj_law_cause.specs.kinds.Rows.{tested}
-use Rattle.arj_law_cause.specs.kinds.Tests.{is_copy_so, is_entry_so, is_told_so}
-use Rattle.arj_cause_tests.proofs.Words.{Run, Wrote, after, instead, lacking_from, nodes, object_line, run, u}
+use Rattle.arj_law_cause.specs.kinds.Tests.{is_told_so}
+use Rattle.arj_cause_tests.proofs.Words.{Run, Wrote, after, instead, lacking, nodes, object_line, run, u}
 use Rattle.arj_cause_tests.proofs.Worked.{conflict, exclusion, lost_lock, nested_abort, rebinding}
 
 -- the places of those lines of an event that don't pass a test, from 1
@@ -36,10 +36,10 @@ failing test of st r = failing_from (tested test (λ h. of)) r.header (at_start 
 
 -- lines of an entry that aren't as the journal says, and of a copy, and of an end, from a start
 abbrev entries : Start → Run → List ℕ
-entries = failing is_entry_so is_entry_shown
+entries = failing has_cause is_entry_shown
 
 abbrev copies : Start → Run → List ℕ
-copies = failing is_copy_so is_copy_shown
+copies = failing has_cause is_copy_shown
 
 abbrev tolds : Run → List ℕ
 tolds = failing is_told_so is_told fresh
@@ -77,8 +77,8 @@ shown = run (nodes 3 (object_line 1 (value.Counter 7) (1 ∷ []) (2 ∷ 3 ∷ []
 shown_so : entries goes_on shown ++ copies goes_on shown ≡ []
 shown_so = refl
 
--- counted from version 0 its lines have no cause
-shown_from_nothing : lacking_from shown.header (at_start goes_on) shown.wrote ≡ 1 ∷ 2 ∷ 3 ∷ []
+-- where a run begins fresh its lines have no cause
+shown_from_nothing : lacking shown ≡ 1 ∷ 2 ∷ 3 ∷ []
 shown_from_nothing = refl
 
 entry_version : entries goes_on (instead 1 (body.Entry 1 0 (1 ∷ []) (2 ∷ 3 ∷ [])) shown) ≡ 1 ∷ []
@@ -102,8 +102,8 @@ copy_writer = refl
 copy_value : copies goes_on (instead 2 (body.Copy 2 1 5 (u 1 2 4) (bytes 8)) shown) ≡ 2 ∷ []
 copy_value = refl
 
--- where no entry is shown another version may stand, at a store that a commit excludes say
-copy_alone : copies goes_on (instead 1 (body.Halted 1) (instead 2 (body.Copy 2 1 0 (u 1 2 4) (bytes 7)) shown)) ≡ []
+-- also where no entry is shown
+copy_alone : copies goes_on (instead 1 (body.Halted 1) (instead 2 (body.Copy 2 1 0 (u 1 2 4) (bytes 7)) shown)) ≡ 2 ∷ []
 copy_alone = refl
 
 -- of a node that halted none stands

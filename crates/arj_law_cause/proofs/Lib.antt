@@ -4,5 +4,9 @@ pub mod rows
 pub mod kinds
 pub mod operations
 pub mod spelled
+pub mod numbers
 pub mod told
 pub mod forms
+pub mod quiesces
+pub mod bindings
+pub mod confirm

@@ -8,4 +8,6 @@ pub mod Coords
 pub mod Rows
 pub mod Parts
 pub mod Objects
+pub mod Shows
+pub mod Numbers
 pub mod Lines

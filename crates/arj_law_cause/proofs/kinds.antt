@@ -7,8 +7,10 @@
 -- what was asked is what was accepted (`Accepted`), so no action waits where every node is idle (`Waiting`, `Quiet`). Of ends that nodes
 -- hear of and of aborts that are done: whoever has ended where it began is over by the journal (`Over`), and of no other action does a
 -- node say so (`Tells`, `Ended`, `Aborts`); and a server does where it has a lock of the action (`Rowed`, `Served`), and none
--- when it starts anew (`Anew`). Of locks on objects: a server grants one where the table has none against it (`Granted`). Of shows: they
--- say what disks hold (`Held`), which are clean before them (`Shown`).
+-- when it starts anew (`Anew`). Of locks on objects: a server grants one where the table has none against it (`Granted`), and
+-- naming one on an entry (`Entries`), for what was asked (`Wanted`), and at no other message (`Others`). Of shows: they
+-- say what disks hold (`Held`), which are clean before them (`Shown`), and listed stores hold the last state also while the entry is in
+-- doubt (`Stored`). Of commits that are lost: the script gives up the action, whose commit is under way (`LostCommits`).
 pub mod Forms
 pub mod Frames
 pub mod Refused
@@ -30,9 +32,20 @@ pub mod Tells
 pub mod Ended
 pub mod Aborts
 pub mod Held
+pub mod Stored
 pub mod Shown
 pub mod Anew
 pub mod Rowed
 pub mod Served
 pub mod Denied
+pub mod Wanted
+pub mod Others
 pub mod Granted
+pub mod Tops
+pub mod Checks
+pub mod Entries
+pub mod LostCommits
+pub mod Late
+pub mod Asking
+pub mod Preparing
+pub mod Committing

@@ -14,6 +14,7 @@ pub mod Meeting
 pub mod Inside
 pub mod Holders
 pub mod Telling
+pub mod Pending
 pub mod Running
 pub mod Agreeing
 pub mod Ending

@@ -11,6 +11,7 @@ pub mod Commits
 pub mod Requests
 pub mod Replies
 pub mod Tolds
+pub mod Askers
 pub mod Servers
 pub mod Saves
 pub mod Saving

@@ -6,3 +6,4 @@ pub mod operations
 pub mod spelled
 pub mod told
 pub mod form
+pub mod rounds

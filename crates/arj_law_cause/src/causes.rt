@@ -1,7 +1,7 @@
 // Rows of causes: lines of the world, and what nodes do.
-ghost use Rattle.arj_law_cause.specs.kinds.Kinds.{is_abort_done, is_armed, is_commit_done, is_copy_shown, is_denial, is_dropped, is_entry_shown, is_found, is_got, is_granted_object, is_halted, is_limit, is_opening, is_plain_refusal, is_quiet, is_sent, is_told, is_told_by_server, is_up, is_void};
+ghost use Rattle.arj_law_cause.specs.kinds.Kinds.{is_abort_done, is_armed, is_bare_abort, is_commit_done, is_committed, is_copy_shown, is_denial, is_dropped, is_entry_prepared, is_entry_shown, is_found, is_got, is_granted_object, is_granted_entry, is_halted, is_limit, is_listed_abort, is_lost_commit, is_met_abort, is_opening, is_plain_refusal, is_prepared, is_quiet, is_sent, is_told, is_told_by_server, is_up, is_void};
 ghost use Rattle.arj_law_cause.specs.kinds.Rows.{RowHolds, RowHoldsWhere, TestHolds};
-ghost use Rattle.arj_law_cause.specs.kinds.Tests.{is_copy_so, is_entry_so, is_granted_so, is_told_so};
+ghost use Rattle.arj_law_cause.specs.kinds.Tests.{is_granted_so, is_committed_so, is_prepared_so, is_told_so};
 
 /// In every run in form, wherever it begins and wherever disks stop, each line of a frame has its cause by the events and the lines before
 /// it, row by row: a frame that is sent has the next number and goes from a node that is up, or from nobody where the script hands over
@@ -71,11 +71,11 @@ pub fn ends_have_causes()
 {}
 
 /// In every such run a line `entry` stands in a show of its object, with the object's entry as the lines before the event say, counted from
-/// where the run began. A line `copy` stands in a show of its object, of a node that is up; of a store that is listed, where the event has
-/// shown the entry, it is the last state so counted. It does nothing when it runs.
+/// where the run began. A line `copy` stands in a show of its object, of a node that is up; of a store that is listed it is the last state so
+/// counted. It does nothing when it runs.
 pub fn shows_have_causes()
-    ensures entries { TestHolds is_entry_so is_entry_shown }
-    ensures copies { TestHolds is_copy_so is_copy_shown }
+    ensures entries { RowHolds is_entry_shown }
+    ensures copies { RowHolds is_copy_shown }
 {}
 
 /// In every such run, where a server says that it was told of an end, a lock of the action or of one below it stands in the table of its
@@ -90,8 +90,46 @@ pub fn denials_have_causes()
     ensures denied { RowHolds is_denial }
 {}
 
-/// In every such run, but in a restart, a lock on an object is granted to an action that began and has no such lock at the node by the
-/// table before the line, whose path meets none there. It does nothing when it runs.
+/// In every such run a lock on an object is granted to an action of which a call of the object by an operation of that mode was accepted, and
+/// that has no such lock at the node by the table before the line, whose path meets none there; and none is granted in a restart. It does
+/// nothing when it runs.
 pub fn locks_on_objects_are_free()
-    ensures granted { TestHolds is_granted_so is_granted_object }
+    ensures granted { RowHolds is_granted_object }
+{}
+
+/// In every such run a commit is aborted as lost in an event that gives up its action, while the commit is under way by the lines before, and
+/// a line of the event says that it gave up the node. It does nothing when it runs.
+pub fn lost_commits_have_causes()
+    ensures lost { RowHolds is_lost_commit }
+{}
+
+/// In every such run a commit that is under way is aborted for a store that is listed where the action includes the store, doesn't exclude
+/// it, and it was listed by the journal at the place of the commit's span at which naming answered; and for want of stores where the action
+/// excludes each store that was listed there, of which there were some, and each that it includes; and for a conflict, where it names another
+/// action than the top itself, where the top met this row there, as the first one against the exclude lock, on the entry of an object from
+/// which the action excludes a store. It does nothing when it runs.
+pub fn refused_commits_have_causes()
+    ensures listed { RowHolds is_listed_abort }
+    ensures bare { RowHolds is_bare_abort }
+    ensures met { RowHoldsWhere is_met_abort }
+{}
+
+/// In every such run something is prepared, at a store or at naming, for an action that began and whose commit was called; and at naming,
+/// which is at node 1, only where the action has excluded a store, or an include of it survives. It does nothing when it runs.
+pub fn preparations_have_causes()
+    ensures prepared { TestHolds is_prepared_so is_prepared }
+    ensures entries { RowHolds is_entry_prepared }
+{}
+
+/// In every such run, but in a restart, a lock on an entry is granted by naming, to a top that has no such lock by the table before the line,
+/// and whose path meets none. One for an exclusion is so to a top that excluded a store of the object; for any other a call or an include of
+/// the object, of the top or of an action below it, was accepted. It does nothing when it runs.
+pub fn locks_on_entries_are_free()
+    ensures locked { TestHolds is_granted_so is_granted_entry }
+{}
+
+/// In every such run a nested action commits in the event that commits it, and any other action while its commit is under way by the lines
+/// before. It does nothing when it runs.
+pub fn commits_are_called()
+    ensures committed { TestHolds is_committed_so is_committed }
 {}

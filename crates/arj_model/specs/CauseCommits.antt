@@ -1,6 +1,6 @@
 -- Why a commit that was called is refused: the causes of the lines `aborted` with `conflict`, `changed`, `old`, `nostores`
 -- and `listed`.
-use Rattle.std.specs.Prelude.{ℕ, List, [], ◌∷◌, drop, find, Bool, ◌==◌, ◌&&◌, not, nat_lt, nat_le, Option}
+use Rattle.std.specs.Prelude.{ℕ, ◌+◌, List, [], ◌∷◌, drop, find, Bool, ◌==◌, ◌&&◌, not, nat_lt, nat_le, Option}
 use Rattle.std.specs.List.{list_any, list_all}
 use Rattle.arj_base.specs.declared.mode.Mode.{Mode}
 use Rattle.arj_base.specs.declared.mode.Mode.TheVariants.{Exclude}
@@ -60,12 +60,12 @@ abbrev pub has_restarted : List Line → ℕ → Option ℕ → Bool
 has_restarted lines x root =
     holds_in (λ e. list_any (λ line. is_up 1 line.body) (drop e.at lines)) (find (λ e. (e.it.x == x) && is_root e.it.root root) (enterings lines))
 
--- The store answered the Prepare of what the top changes; by then so many tops had been committed that wrote the object, and naming
--- had lost the top's lock.
+-- The store answered the Prepare of what the top changes; by then the object had this version or a later one, which counts the committed
+-- tops that wrote it from where the run began, and naming had lost the top's lock.
 abbrev pub is_old : Here → List ℕ → ℕ → ℕ → ℕ → Bool
 is_old h l n x v =
     nat_le 1 v && commits_so h l (λ a c. changes h.lines a.id x
-    && answered h c a.uid.node n (frame.Prepared ∷ []) (λ before. nat_le v (writers before x) && has_restarted before x (root_in (path_of h a))))
+    && answered h c a.uid.node n (frame.Prepared ∷ []) (λ before. nat_le v ((h.start.marks.states x).version + writers before x) && has_restarted before x (root_in (path_of h a))))
 
 -- `nostores`.
 

@@ -94,10 +94,10 @@ stores_have h a c after =
     list_all (λ call. not (writes call.op)
     || list_all (λ s. prepared_in h.accepted a s (take c h.lines) (drop c h.lines)) (listed h.header after call.x)) (surviving h.lines a.id)
 
--- A nested action commits where the script says so, and isn't doomed. A top commits where its commit was called, and its stores have
--- prepared.
+-- A nested action commits where the script says so. (The lines alone can't tell that it isn't doomed: one whose lost call was never taken by
+-- the node may be doomed by them.) A top commits where its commit was called, and its stores have prepared.
 abbrev pub commit_caused : Here → List ℕ → Kind → Act → List Line → Bool
-commit_caused h l kind.Nested a after = is_commit_of l h.event && not (is_doomed h.accepted h.lines l)
+commit_caused h l kind.Nested a after = is_commit_of l h.event
 commit_caused h l _ a after = holds_in (λ c. stores_have h a c after) (commit_here h l)
 
 -- A line says so behind these.

@@ -19,7 +19,7 @@ use Rattle.arj_journal.specs.declared.event.Event.TheVariants as event
 use Rattle.arj_text.specs.Label.{name}
 use Rattle.arj_model.specs.Actions.{Act, acts, path}
 use Rattle.arj_model.specs.Calls.{committings}
-use Rattle.arj_model.specs.Last.{entry_state, excluded, included, is_among, joins_of, last_state, listed, object_line, same_list}
+use Rattle.arj_model.specs.Last.{entry_from, excluded, included, is_among, joins_of, last_from, listed, object_line, same_list}
 use Rattle.arj_model.specs.Last.{servers_of_line}
 use Rattle.arj_model.specs.Past.{Asked, Past}
 use Rattle.arj_model.specs.Refusals.{frame_no, has_frame, incarnation, is_down, is_first, is_node, is_waiting, last_frame, open_frames}
@@ -167,19 +167,19 @@ abbrev pub shows_object : ℕ → Event → Bool
 shows_object x (event.Show y) = y == x
 shows_object x _ = false
 
--- `entry`. It is as the lines before the event say.
+-- `entry`. It is as the lines before the event say, counted from where the run began.
 abbrev pub entry_caused : Here → ℕ → ℕ → List ℕ → List ℕ → Bool
 entry_caused h x v servers stores =
     let before = take h.first h.lines in
-    shows_object x h.event && (((entry_state h.header before x).version == v)
+    shows_object x h.event && (((entry_from h.header h.start.marks before x).version == v)
     && (same_list (servers_of_line (object_line h.header x)) servers && same_list (listed h.header before x) stores))
 
 -- the version, the writer and the payload are those of this state
 abbrev pub is_state : ℕ → Uid → List ℕ → ObjectState → Bool
 is_state v u payload s = (s.version == v) && (uid_eq s.writer u && same_list s.payload payload)
 
--- `copy`. Of a store that is listed it is the last state, by the lines before the event.
+-- `copy`. Of a store that is listed it is the last state, by the lines before the event, counted from where the run began.
 abbrev pub copy_caused : Here → ℕ → ℕ → ℕ → Uid → List ℕ → Bool
 copy_caused h n x v u payload =
     let before = take h.first h.lines in
-    shows_object x h.event && (not (is_down h.start h.lines n) && (not (is_among (listed h.header before x) n) || is_state v u payload (last_state h.header before x)))
+    shows_object x h.event && (not (is_down h.start h.lines n) && (not (is_among (listed h.header before x) n) || is_state v u payload (last_from h.header h.start.marks before x)))

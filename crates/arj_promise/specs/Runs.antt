@@ -4,6 +4,7 @@ use Rattle.std.specs.List.{AllByRecursion}
 use Rattle.arj_journal.specs.ScriptForm.{EventInForm, HeaderInForm}
 use Rattle.arj_journal.specs.declared.body.Line.{Line}
 use Rattle.arj_journal.specs.declared.header.Header.{Header}
+pub use Rattle.arj_start.specs.Limits.{most_events}
 use Rattle.arj_start.specs.Start.{Start, fresh}
 use Rattle.arj_msg.specs.declared.message.Message.{Message}
 use Rattle.arj_promise.specs.Starts.{IsFormed, fresh_is_formed}
@@ -80,10 +81,6 @@ as_moves (e ∷ es) w = record { asked = e; falls = w.arms } ∷ as_moves es (ru
 -- the run of a script
 abbrev pub run_of : (hd : Header) → List Asked → Run hd
 run_of hd es = from_format hd (as_moves es (format hd))
-
--- more events than the lines of a script and those of a generated bank, which are at most 100,000 and 200,000
-abbrev pub most_events : ℕ
-most_events = 1000000
 
 -- a stop falls at one of the works that a disk does from now on, counted from 1
 abbrev pub HasWork : Arm → Type 0

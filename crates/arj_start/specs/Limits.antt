@@ -20,3 +20,11 @@ most_frames = 100000
 -- the most actions of a path
 abbrev pub most_on_path : ℕ
 most_on_path = 16
+
+-- the most events of a run: more than the lines of a script and those of a generated bank, which are at most 100,000 and 200,000
+abbrev pub most_events : ℕ
+most_events = 1000000
+
+-- the greatest incarnation that 32 bits count
+abbrev pub last_inc : ℕ
+last_inc = 4294967295

@@ -1,8 +1,10 @@
--- Operations and answers of `ok` lines: an operation is that of an accepted event, and an answer of one word is in form whatever it answers.
+-- Operations and answers of `ok` lines: an operation is that of an accepted event, and an answer is one that a server sent.
 use Rattle.arj_law_parts.proofs.Words
 use Words.{⊤, ◌≡◌, ◌+◌, ◌++◌, ℕ, Bool, true, false, if◌then◌else◌, cond, List, [], ◌∷◌, length, take, map, zero, suc, Option, Some, None}
 use Words.{refl, sym, subst, nat_lt, AllByRecursion, Answer, Body, Event, Header, Line, Op, Move}
-use Words.{option_map, answer_of, world_by, name}
+use Words.{option_map, answer_of, answer_text, world_by, world_from, name, Post, Reply, Seen}
+use Words.ask
+use Words.invoked
 use Words.body
 use Words.event
 use Rattle.arj_class.specs.declared.op.Answer.TheVariants as answer
@@ -17,48 +19,23 @@ use Rattle.arj_model.specs.Follows.{AreEnding, IsAnswerOf, IsCallOf, is_ending}
 use Rattle.arj_model.specs.Past.{Along, Asked, Past, asked_of, at_start, block, is_refused, next}
 use Rattle.arj_model.specs.Refusals.{answers_to, asks_by, has_ended, is_ask_by, last_asked, pending, waits_for}
 use Rattle.arj_promise.specs.Runs.{AreMovesInForm, IsInForm, Run, journal_by}
-use Rattle.arj_text.specs.Fields.{AnswerTextInForm, IsAnswer, OpTextInForm}
-use Rattle.arj_law_cause.proofs.operations.Running.{runs_answer}
+use Rattle.arj_text.specs.Fields.{AnswerTextInForm, IsAnswer, OpTextInForm, is_get}
+use Rattle.arj_class.specs.Table.{front_of, number_or_nothing, value_at}
+use Rattle.arj_law_parts.proofs.moves.Events.{run_with}
+use Rattle.arj_law_parts.specs.moves.Moments.{no_history}
+use Rattle.arj_law_promise.proofs.rooms.Actions.{runs_say_actions}
+use Rattle.arj_law_serial.proofs.joint.Starting.{start_stays}
+use Rattle.arj_law_cause.proofs.operations.Running.{All, all_keep}
+use Rattle.arj_law_cause.proofs.operations.Taking.{AnswersOf, WasSaid}
+use Rattle.arj_law_cause.proofs.spelled.Askers.{lines_have_uids}
+use Rattle.arj_law_cause.proofs.spelled.Messages.{Saves, good_of, saved_keep}
+use Rattle.arj_law_cause.proofs.spelled.Operations.{P, moves_form as in_form, ops_keep}
+use Rattle.arj_law_cause.proofs.spelled.Saving.{OlderRestore, older_restore}
+use Rattle.arj_law_cause.proofs.spelled.Servers.{AnswerSays}
+use Rattle.arj_law_cause.proofs.waits.lost.Bound.{all_both}
+use Rattle.arj_law_cause.specs.operations.Says.{Gives}
 use Rattle.arj_law_cause.proofs.waits.replies.Running.{replies_end}
-use Rattle.arj_law_cause.specs.form.Form.{answers_more}
-use Rattle.arj_law_cause.specs.operations.Runs.{AnswersIt}
 use Rattle.arj_law_cause.specs.waits.replies.Ends.{EndWaits, EndsWait, RepliesStep}
-
--- ---- answers
-
-if_word : (asked : Op) (b : Bool) (x y : Answer) → AnswerTextInForm asked x → AnswerTextInForm asked y →
-    AnswerTextInForm asked (if b then x else y)
-if_word asked true x y a b = a
-if_word asked false x y a b = b
-
--- an operation that answers with a word does so at each value
-words : (o : Op) (v : Value) → answers_more o ≡ false → AnswerTextInForm o (answer_of o v)
-words op.Get v is = absurd (cc is)
-words op.Len v is = absurd (cc is)
-words op.Pop v is = absurd (cc is)
-words (op.GetKey k) v is = absurd (cc is)
-words (op.Remove k) v is = absurd (cc is)
-words (op.Add n) (value.Counter m) is = if_word (op.Add n) (nat_lt (m + n) 18446744073709551616) answer.Done answer.Over tt tt
-words (op.Add n) v is = tt
-words (op.Set n) (value.Counter m) is = tt
-words (op.Set n) v is = tt
-words (op.Put new) (value.Register bytes) is = tt
-words (op.Put new) v is = tt
-words (op.Deposit n) (value.Account m) is = if_word (op.Deposit n) (nat_lt (m + n) 18446744073709551616) answer.Done answer.Over tt tt
-words (op.Deposit n) v is = tt
-words (op.Withdraw n) (value.Account m) is = if_word (op.Withdraw n) (nat_lt m n) answer.Short answer.Done tt tt
-words (op.Withdraw n) v is = tt
-words (op.Push n) (value.Queue ns) is = if_word (op.Push n) (nat_lt (length ns) 32) answer.Done answer.Full tt tt
-words (op.Push n) v is = tt
-words (op.PutPair k x) (value.Table ps) is = if_word (op.PutPair k x) (is_full_for k ps) answer.Full answer.Done tt tt
-words (op.PutPair k x) v is = tt
-words (op.Create w) (value.Gone c) is = tt
-words (op.Create w) v is = tt
-words op.Destroy (value.Gone c) is = tt
-words op.Destroy v is = tt
-
-pub is_answer : (o : Op) (bytes : List ℕ) → answers_more o ≡ false → IsAnswerOf o bytes → IsAnswer o bytes
-is_answer o bytes is its = (answer_of o its.0, words o its.0 is, its.2)
 
 -- ---- what was asked
 
@@ -160,19 +137,124 @@ runs_say_ops hd r form =
     (along_say hd (run_events hd r) (at_start r.start) q.0 q.2 (moves_form (let w = world_by hd r in w.event) r.moves form.events) tt tt)
     (ending_says (length (run_events hd r)) q.1 q.4))
 
--- an `ok` line of an operation that answers with a word
+-- ---- what is answered
+
+-- an `ok` line says an answer of its operation, which has the form of one
+abbrev SaidIt : Body → Type 0
+SaidIt (body.Ok l x o bytes) = (a : Answer) × Gives o a × (bytes ≡ answer_text a) × AnswerSays a
+SaidIt b = ⊤
+
+abbrev SaidOf : ℕ → Body → Type 0
+SaidOf x (body.Ok l y o bytes) = y ≡ x → SaidIt (body.Ok l y o bytes)
+SaidOf x b = ⊤
+
+says_of : (x : ℕ) (posts : List Post) → ((a : Answer) → WasSaid posts a → AnswerSays a) → (ls : List Line) →
+    AllByRecursion (λ (line : Line). AnswersOf x posts line.body) ls → AllByRecursion (λ (line : Line). SaidOf x line.body) ls
+says_of x posts says [] all = tt
+says_of x posts says (l ∷ ls) all = (one l.body all.0, says_of x posts says ls all.1)
+  where
+    one : (b : Body) → AnswersOf x posts b → SaidOf x b
+    one (body.Ok l y o bytes) its = λ same. let q = its same in (q.0, q.1, q.2, says q.0 q.3)
+    one b its = tt
+
+each_said : (ls : List Line) → ((x : ℕ) → AllByRecursion (λ (line : Line). SaidOf x line.body) ls) →
+    AllByRecursion (λ (line : Line). SaidIt line.body) ls
+each_said [] all = tt
+each_said (l ∷ ls) all = (one l.body (λ x. (all x).0), each_said ls (λ x. (all x).1))
+  where
+    one : (b : Body) → ((x : ℕ) → SaidOf x b) → SaidIt b
+    one (body.Ok l y o bytes) its = its y refl
+    one b its = tt
+
+module _ (hd : Header) (r : Run hd) (form : IsInForm hd r) where
+  -- in the world behind the run
+  older : OlderRestore (let w = world_by hd r in w.start)
+  older = subst OlderRestore (sym (start_stays hd r)) (older_restore hd r.start r.formed)
+
+  runs_say_answers : AllByRecursion (λ (line : Line). SaidIt line.body) (journal_by hd r)
+  runs_say_answers = each_said (journal_by hd r) one_object
+    where
+      one_object : (x : ℕ) → AllByRecursion (λ (line : Line). SaidOf x line.body) (journal_by hd r)
+      one_object x =
+          let header = form.header in
+          let keeps = saved_keep hd header in
+          let good = λ (M : Seen) (all : Saves hd header M). good_of hd header M all.0 in
+          let h = run_with hd (λ M. All hd x M × P hd (Saves hd header) keeps good M) (all_both hd (All hd x) (P hd (Saves hd header) keeps good)
+          (all_keep hd x header) (ops_keep hd (Saves hd header) keeps good)) r in
+          let n = h.now in
+          let w = n.holds.1.1 in
+          let ops = w.3 (in_form r.moves (world_from hd r.start) (no_history r.start) form.events tt) in
+          let uids = lines_have_uids (journal_by hd r) (runs_say_actions hd r form (let f = r.formed in f.incs)) in
+          let saved = w.2.1 ((λ p q y b i ends o there is. ops p q (ask.Invoke y b i ends o) there is), uids) in
+          says_of x n.sent
+          (λ a was. (saved.1 was.0 (w.1 was.0 was.2)).1 was.1 (Reply.Invoked (invoked.Answered a)) was.3 older) (journal_by hd r) n.holds.0.1
+
+-- ---- which answers are in form
+
+-- bytes are answered to a `get` alone
+abbrev IsPlain : Answer → Type 0
+IsPlain (answer.Text bytes) = ⊥
+IsPlain a = ⊤
+
+if_plain : (b : Bool) (x y : Answer) → IsPlain x → IsPlain y → IsPlain (if b then x else y)
+if_plain true x y a b = a
+if_plain false x y a b = b
+
+number_plain : (o : Option ℕ) → IsPlain (number_or_nothing o)
+number_plain None = tt
+number_plain (Some n) = tt
+
+front_plain : (ns : List ℕ) → IsPlain (front_of ns)
+front_plain [] = tt
+front_plain (n ∷ ns) = tt
+
+plain : (o : Op) (v : Value) → is_get o ≡ false → IsPlain (answer_of o v)
+plain op.Get v is = absurd (cc is)
+plain (op.Create w) (value.Gone c) is = tt
+plain (op.Create w) v is = tt
+plain op.Destroy (value.Gone c) is = tt
+plain op.Destroy _ is = tt
+plain (op.Set n) (value.Counter m) is = tt
+plain (op.Put new) (value.Register bytes) is = tt
+plain op.Len (value.Queue ns) is = tt
+plain (op.Add n) (value.Counter m) is = if_plain (nat_lt (m + n) 18446744073709551616) answer.Done answer.Over tt tt
+plain (op.Deposit n) (value.Account m) is = if_plain (nat_lt (m + n) 18446744073709551616) answer.Done answer.Over tt tt
+plain (op.Withdraw n) (value.Account m) is = if_plain (nat_lt m n) answer.Short answer.Done tt tt
+plain (op.Push n) (value.Queue ns) is = if_plain (nat_lt (length ns) 32) answer.Done answer.Full tt tt
+plain op.Pop (value.Queue ns) is = front_plain ns
+plain (op.GetKey k) (value.Table ps) is = number_plain (value_at k ps)
+plain (op.PutPair k x) (value.Table ps) is = if_plain (is_full_for k ps) answer.Full answer.Done tt tt
+plain (op.Remove k) (value.Table ps) is = number_plain (value_at k ps)
+plain o v is = tt
+
+answer_form : (o : Op) (a : Answer) → Gives o a → AnswerSays a → AnswerTextInForm o a
+answer_form o (answer.Number n) gives says = says
+answer_form o (answer.Text bytes) gives says = (by (is_get o) refl, says)
+  where
+    by : (b : Bool) → is_get o ≡ b → b ≡ true
+    by true is = refl
+    by false is = absurd (subst IsPlain (sym gives.2) (plain o gives.0 is))
+answer_form o answer.Done gives says = tt
+answer_form o answer.Over gives says = tt
+answer_form o answer.Short gives says = tt
+answer_form o answer.Full gives says = tt
+answer_form o answer.Nothing gives says = tt
+answer_form o answer.There gives says = tt
+answer_form o answer.Gone gives says = tt
+
+-- an `ok` line has an operation in form, and an answer of it
 abbrev pub OkInForm : Body → Type 0
-OkInForm (body.Ok l x o a) = OpTextInForm o × (answers_more o ≡ false → IsAnswer o a)
+OkInForm (body.Ok l x o a) = OpTextInForm o × IsAnswer o a
 OkInForm b = ⊤
 
-both_ok : (lines : List Line) → AllSay lines → AllByRecursion (λ (line : Line). AnswersIt line.body) lines →
+both_ok : (lines : List Line) → AllSay lines → AllByRecursion (λ (line : Line). SaidIt line.body) lines →
     AllByRecursion (λ (line : Line). OkInForm line.body) lines
-both_ok [] ops answers = tt
-both_ok (line ∷ lines) ops answers = (one line.body ops.0 answers.0, both_ok lines ops.1 answers.1)
+both_ok [] ops said = tt
+both_ok (line ∷ lines) ops said = (one line.body ops.0 said.0, both_ok lines ops.1 said.1)
   where
-    one : (b : Body) → SaysOp b → AnswersIt b → OkInForm b
-    one (body.Ok l x o a) says its = (says, λ is. is_answer o a is its)
-    one b says its = tt
+    one : (b : Body) → SaysOp b → SaidIt b → OkInForm b
+    one (body.Ok l x o a) says gave = (says, (gave.0, answer_form o gave.0 gave.1 gave.3, gave.2))
+    one b says gave = tt
 
 pub runs_say_ok : (hd : Header) (r : Run hd) → IsInForm hd r → AllByRecursion (λ (line : Line). OkInForm line.body) (journal_by hd r)
-runs_say_ok hd r form = both_ok (journal_by hd r) (runs_say_ops hd r form) (runs_answer hd r form)
+runs_say_ok hd r form = both_ok (journal_by hd r) (runs_say_ops hd r form) (runs_say_answers hd r form)

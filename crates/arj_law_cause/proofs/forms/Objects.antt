@@ -1,9 +1,9 @@
 -- Objects and actions that lines name, in every run: of calls, includes and commits, of locks, and of what is prepared and done.
 use Rattle.arj_law_parts.proofs.Words
-use Words.{⊤, ◌⊎◌, ⊎_elim, inl, inr, ◌≡◌, ◌∙◌, ◌+◌, ◌==◌, ◌||◌, ℕ, Bool, true, false, cond, List, [], ◌∷◌, ◌++◌, flat_map, map, find}
+use Words.{⊤, ◌⊎◌, ⊎_elim, inr, ◌≡◌, ◌∙◌, ◌+◌, ◌==◌, ◌||◌, ℕ, Bool, true, false, cond, List, [], ◌∷◌, ◌++◌, flat_map, map, find}
 use Words.{Option, Some, None, IfSome, refl, sym, ap, subst, AllByRecursion, and_parts, list_all, either, option_map, in_find, uid_is, numbered, has}
-use Words.{uid_set, without_number, uid_eq, last_uid, Body, Header, Line, Message, Uid, Disk, Effect, Head, Ask, Asked, Reply, ObjectState, Row}
-use Words.{InvokedReply, uids_of, answers, last_end, acked, answer_query, heard, handle_other}
+use Words.{uid_set, without_number, uid_eq, last_uid, Body, Header, Line, Message, Uid, Disk, Effect, Ask, Asked, Reply, ObjectState, Row}
+use Words.{InvokedReply, answers, last_end, acked, answer_query, heard, handle_other}
 use Words.{coord_heard, Served, Handled, Work, Prepare, Commit, Abort, PutIntent, RemoveIntent, Stop, Before, After, InPart}
 use Words.{worked, stopped, Do, Say, Send, Look, PutInc, Pair, Parts, handle, holders, query_about, prepared_actions, hello_to, numbers_to, Input}
 use Words.{naming_at, naming_back, back_lines, named_back, rows_back, pending_of, recovered_naming, recovered_records, restart_outs, Kept, Copy}
@@ -11,7 +11,7 @@ use Words.{tolds_again, tell_all, tick_outs, Named, Naming, Server}
 use Words.{Coord, Doing, Calling, Steps, doing_of, Intent, at_uid, is_open, is_deferred, answer_recorded}
 use Words.{answer_decided, is_kept_commit, tell, root_or_self, branch_of, again_all, begin_action, parent_of, with_coord, parts_in, is_serial}
 use Words.{acts as does, Node, Seen, Post, root_of, AreAll, is_coord_effect, is_coord_line, world_by, acked_own, acts_own, again_own, heard_own}
-use Words.{In as Among, Start, refusal_up, Contains, in_from, in_to, Kind}
+use Words.{Start, refusal_up}
 use Words.ask
 use Words.body
 use Words.bound
@@ -19,58 +19,42 @@ use Words.cause
 use Words.confirmed
 use Words.ending
 use Words.invoked
-use Words.kind
 use Words.loaded
 use Words.message
 use Words.role
 use Rattle.arj_law_promise.proofs.Terms
 use Terms.{Action, AllSilent, HasObject, HeaderInForm, Holds, In, IsUp, IsUsedIn, KeepsAsked, UsesOf, Up, Walks, WaitsAreKnown, given, it, moves_asked}
-use Terms.{Own, all_append, disk_by, first_at, all_each, posted, said, node_here, up, at, halted, walks_both, all_both, all_flat, all_map, asked_both, keeps_asked, IsNode}
+use Terms.{Own, disk_by, first_at, all_each, posted, said, node_here, up, at, halted, walks_both, all_both, all_flat, all_map, asked_both, keeps_asked, IsNode}
 use Terms.{by_coord, by_message, is_act}
 use Rattle.arj_base.specs.Uid.{UidFits, nobody}
 use Rattle.arj_law_disk_view.proofs.running.Lists.{all_put, all_without}
 use Rattle.arj_law_parts.proofs.coordinator.Walks.{acked_trace, acts_trace, again_trace, heard_trace}
 use Rattle.arj_law_parts.proofs.moves.EachNode as at_each
 use Rattle.arj_law_parts.specs.moves.Seen.{is_quiet_line}
-use Rattle.arj_law_parts.specs.parts.{Actions.AreBegun, Actions.Stands, Actions.act_of, AskedObjects.IsNowOf, Messages.IsAsker}
+use Rattle.arj_law_parts.specs.parts.{AskedObjects.IsNowOf}
 use Rattle.arj_law_parts.specs.steps.Spoken.{SaidIn}
 use Rattle.arj_law_promise.proofs.waiting
 use waiting.AskedEffects.{acked_quiet, acts_quiet, heard_quiet, tick_quiet}
 use waiting.Known.{used_is}
 use waiting.Serving.{quiet_silent}
 use Rattle.arj_law_promise.specs.meant.Meant.{AskFits}
-use Rattle.arj_law_runs.proofs.calls.WorldVotes.{asker_of, fits_asked}
-use Rattle.arj_law_runs.proofs.journal.{Models.book_acts, Paths.IsNamed, Paths.paths_keep}
+use Rattle.arj_law_runs.proofs.journal.{Paths.IsNamed, Paths.paths_keep}
 use Rattle.arj_law_runs.specs.addresses.Addresses.{IsEntry, StateOf}
-use Rattle.arj_law_runs.specs.journal.{Book.new_book, Paths.AreAlike, Paths.IsAlike, Right.has_act}
+use Rattle.arj_law_runs.specs.journal.{Paths.IsAlike}
 use Rattle.arj_law_runs.specs.kept.Worlds.{IsGoodOf}
-use Rattle.arj_model.specs.Actions.{Act, acts as acts_in}
 use Rattle.arj_promise.specs.Runs.{Run, journal_by}
 use Rattle.arj_law_cause.proofs.forms.Coords.{InvokedSo, KnowsObjects, NamesObjects, ReplySo, one_of, trace_names}
 use Rattle.arj_law_cause.proofs.forms.Parts.{AsksObject, EffectSo, KeysSo, NamesSo, NamesSuch, PendsSo, SaysAll, SaysSo, ServerSo, UpSo}
 use Rattle.arj_law_cause.proofs.forms.Parts.{WorkSo, ends_handled, entry_fits, hello_says, serve_says}
 use Rattle.arj_law_cause.proofs.forms.Said.{LinesSo, halted_so, quiet_so, walk_so}
-use Rattle.arj_law_cause.proofs.rows.Holders.{any_later, begun_act}
+use Rattle.arj_law_cause.proofs.spelled.Askers.{Such, askers_began, such_on}
 use Rattle.arj_law_cause.proofs.spelled.Commits.{Base, object_number, of_few}
 use Rattle.arj_law_cause.proofs.spelled.Messages.{Said, fits, said_keep}
 use Rattle.arj_law_cause.proofs.spelled.Names.{Apart}
 use Rattle.arj_msg.specs.InForm.{IsObject}
 
--- ---- who began
-
--- an action with this Uid began by these lines
-abbrev pub Began : List Line → Uid → Type 0
-Began ls u = has_act (acts_in ls) u ≡ true
-
--- or it is nobody's
-abbrev pub Such : List Line → Uid → Type 0
-Such ls u = Began ls u ⊎ (u ≡ nobody)
-
 none : (ls : List Line) → Such ls nobody
 none ls = inr refl
-
-such_on : (ls more : List Line) (u : Uid) → Such ls u → Such (ls ++ more) u
-such_on ls more u such = ⊎_elim (λ began. inl (any_later (λ (a : Act). uid_eq a.uid u) ls more began)) (λ is. inr is) such
 
 abbrev pub LineSo : List Line → Body → Type 0
 LineSo ls b = SaysSo (Such ls) b
@@ -431,37 +415,6 @@ begun_walk e k v (Send to m ∷ es) d M all pends so others replies = λ lines q
     (λ p a r there is. reply_later M.lines more r
     (⊎_elim (λ same. all.0 a r (ap (λ (q : Post). answers q.message) same ∙ is)) (λ old. replies p a r old is) there))
 
--- ---- paths
-
-abbrev IsActOf : List Action → Uid → Type 0
-IsActOf acts u = (b : Action) × Among b acts × (act_of b ≡ u)
-
-acts_more : (a : Action) (acts : List Action) (us : List Uid) → AllByRecursion (IsActOf acts) us → AllByRecursion (IsActOf (a ∷ acts)) us
-acts_more a acts us all = all_each (IsActOf acts) (IsActOf (a ∷ acts)) us (λ u f. (f.0, inr f.1, f.2)) all
-
--- each action on the path of one that was begun
-path_began : (acts : List Action) → AreBegun acts → (a : Action) → Among a acts → AllByRecursion (IsActOf acts) (uids_of a.path)
-path_began [] all a i = absurd i
-path_began (c ∷ acts) all a (inr i) = acts_more c acts (uids_of a.path) (path_began acts all.1 a i)
-path_began (c ∷ acts) all a (inl is) = subst (λ (z : Action). AllByRecursion (IsActOf (c ∷ acts)) (uids_of z.path)) is
-    (by (λ b i. path_began acts all.1 b i) c.kind (let b = all.0 in b.stands))
-  where
-    alone : uids_of c.path ≡ act_of c ∷ [] → AllByRecursion (IsActOf (c ∷ acts)) (uids_of c.path)
-    alone path = subst (AllByRecursion (IsActOf (c ∷ acts))) (sym path) ((c, inl refl, refl), tt)
-
-    below : ((b : Action) → Among b acts → AllByRecursion (IsActOf acts) (uids_of b.path)) → (b : Action) → Contains acts b →
-        uids_of c.path ≡ uids_of b.path ++ act_of c ∷ [] → AllByRecursion (IsActOf (c ∷ acts)) (uids_of c.path)
-    below older b there path = subst (AllByRecursion (IsActOf (c ∷ acts))) (sym path) (all_append (IsActOf (c ∷ acts)) (uids_of b.path)
-        (act_of c ∷ []) (acts_more c acts (uids_of b.path) (older b (in_from b acts there))) ((c, inl refl, refl), tt))
-
-    by : ((b : Action) → Among b acts → AllByRecursion (IsActOf acts) (uids_of b.path)) → (k : Kind) → Stands acts c k →
-        AllByRecursion (IsActOf (c ∷ acts)) (uids_of c.path)
-    by older kind.Nested s = below older s.0 s.1 s.3
-    by older kind.Constituent s = below older s.0 s.1 s.3
-    by older kind.Top s = alone s.0
-    by older kind.Serial s = alone s.0
-    by older kind.Independent s = alone s.0
-
 -- ---- every handler
 
 module _ (hd : Header) (form : HeaderInForm hd) where
@@ -541,15 +494,6 @@ module _ (hd : Header) (form : HeaderInForm hd) where
     good : IsGoodOf begun (up k d t M)
     good = let a = g.1.1 in a.1.0
 
-    alike : AreAlike begun (acts_in M.lines)
-    alike = subst (AreAlike begun) (book_acts new_book M.lines) (let a = g.1.1 in a.1.1)
-
-    path_such : (h : Head) → IsAsker begun h.path → AllByRecursion (Such M.lines) (uids_of h.path)
-    path_such h who = subst (λ p. AllByRecursion (Such M.lines) (uids_of p)) who.2
-        (all_each (IsActOf begun) (Such M.lines) (uids_of (let a = who.0 in a.path)) (λ u f. inl (subst (λ w. Began M.lines w) f.2
-        (begun_act begun (acts_in M.lines) alike f.0 (in_to f.0 begun f.1))))
-        (path_began begun (let z = good in z.begun) who.0 (in_from who.0 begun who.1)))
-
     asks_object : (a : Ask) → AskFits hd a → AsksObject (Such M.lines) (none M.lines) a
     asks_object (ask.Bind x include avoid) fit = object_number hd form x fit
     asks_object (ask.Record x b i h) fit = object_number hd form x fit
@@ -567,8 +511,8 @@ module _ (hd : Header) (form : HeaderInForm hd) where
 
       message_left : (from : ℕ) (m : Message) → In (record { from = from; to = k; message = m }) M.sent → Left (handle k d t from m)
       message_left from m there = by_message k d t from (SaysAll (Such M.lines) (none M.lines)) tt m
-          (λ h a is. (let who = asker_of begun h a (fits_asked begun m h a is (good.fits (record { from = from; to = k; message = m }) there)) in
-          serve_says (Such M.lines) (none M.lines) k d t from pends so h a (path_such h who)
+          (λ h a is. (serve_says (Such M.lines) (none M.lines) k d t from pends so h a
+          (askers_began (up k d t M) g.1.1 (record { from = from; to = k; message = m }) h a there is)
           (asks_object a (fits hd form (up k d t M) g.0.0.0 (record { from = from; to = k; message = m }) h a there is))))
           (λ a r is. (let q = heard from a r d.intents t.coord in coord_left q (coord_says (Such M.lines) q.outs (trace_names (Such M.lines) knows
           (g.0.1 (record { from = from; to = k; message = m }) a r there is, replies (record { from = from; to = k; message = m }) a r there is)

@@ -41,7 +41,7 @@ use Rattle.arj_law_parts.specs.moves.Keeps.{IsAtStarts}
 use Rattle.arj_law_cause.proofs.kinds.Nodes.{wide_all}
 use Rattle.arj_law_cause.proofs.kinds.Over.{Ends, below_ends, ends_quiet, ends_say, past_ends}
 use Rattle.arj_law_cause.proofs.kinds.Running.{nothing_more, row_run}
-use Rattle.arj_law_cause.proofs.kinds.Tells.{FitsEnds, SaysBy, is_of_ends, message_all}
+use Rattle.arj_law_cause.proofs.kinds.Tells.{AskPrepares, FitsEnds, SaysBy, is_of_ends, message_all}
 use Rattle.arj_law_cause.proofs.kinds.Walks as walks
 use Rattle.arj_law_cause.proofs.rows.{Holders.one_passes, Running.steps_both}
 use Rattle.arj_law_cause.specs.kinds.Rows.{TestedStep, tested}
@@ -149,6 +149,7 @@ module _ (begun : List Action) (S : Seen) (pathed : IsPathedOf begun S) (halts :
     store = λ u e c. over_done k u role.Store e (of_told u e c);
     names = λ u e c. over_done 1 u role.Names e (of_told u e c);
     orphans = λ u e o act c there on. lost_ends u act o d.names (subst (AreNamesRows begun) there told.entries) (says.told u e c) on;
+    prepares = λ h a is. over_prepared h a;
   }
     where
       of_told : (u : Uid) (e : End) → Contains {X = Uid × End} (told_by m) (u, e) → Ends S.lines u
@@ -160,6 +161,11 @@ module _ (begun : List Action) (S : Seen) (pathed : IsPathedOf begun S) (halts :
       over_told : (n : ℕ) (u : Uid) (f : End) (p : Words.Part) → Ends S.lines u → IsOver (Ends S.lines) (body.Told n u f p)
       over_told n u ending.Abort p ends = ends
       over_told n u ending.Commit p ends = tt
+
+      over_prepared : (h : Words.Head) (a : Words.Ask) → AskPrepares (IsOver (Ends S.lines)) k h a
+      over_prepared h (Words.ask.Prepare states) = tt
+      over_prepared h (Words.ask.Confirm grants excluded included) = λ some. tt
+      over_prepared h a = tt
 
       over_done : (n : ℕ) (u : Uid) (r : Words.Role) (f : End) → Ends S.lines u → IsOver (Ends S.lines) (body.Done n u r f)
       over_done n u r ending.Abort ends = ends

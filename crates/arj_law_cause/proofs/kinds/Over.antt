@@ -1,14 +1,16 @@
 -- Whoever has ended where it began is over by the journal: it has an end there, or its node halted since.
 use Rattle.arj_law_parts.proofs.Words
 use Words.{◌≡◌, ◌∙◌, ◌==◌, ◌&&◌, ◌||◌, ◌++◌, ◌+◌, not, ℕ, Bool, true, false, cond, List, [], ◌∷◌, Option, Some, None, refl, sym, ap, subst}
-use Words.{inl, inr, ⊎_elim, before_last, and_parts, eqb-true, is_some, list_any, In, in_from, in_to, is_on, is_serial, uids_of, Body, Doing, End, Kind, Line}
+use Words.{inl, inr, ⊎_elim, before_last, and_parts, eqb-true, is_some, list_any, In, in_from, in_to, is_on, is_serial, uids_of, Body}
+use Words.{Doing, End, Kind, Line}
 use Words.{Branch, Node, Parts, Seen, Uid, branch_of, doing_of, is_own, numbered}
 use Words.ending
 use Words.kind
 use Rattle.arj_law_parts.proofs.parts.{Begun.begun_tree, Begun.on_more, Begun.on_own, Begun.path_found, GoodTrees.found_by}
 use Rattle.arj_law_parts.proofs.parts.TrueSteps.{work_there}
 use Rattle.arj_law_parts.specs.moves.Seen.{AreQuiet}
-use Rattle.arj_law_parts.specs.parts.{Actions.Action, Actions.AreBegun, Actions.Stands, Actions.act_of, Actions.paths_of, Coords.IsGoodCoord}
+use Rattle.arj_law_parts.specs.parts.{Actions.Action, Actions.AreBegun, Actions.Stands, Actions.act_of, Actions.paths_of}
+use Rattle.arj_law_parts.specs.parts.{Coords.IsGoodCoord}
 use Rattle.arj_law_parts.specs.parts.Trees.{IsGoodTree}
 use Rattle.arj_law_runs.proofs.Terms.{Act, Placed, acts, acts_after, book, read, put}
 use Rattle.arj_law_runs.proofs.follow.Halts.{KnowsHalts, is_alive}
@@ -32,7 +34,7 @@ Ends lines u = holds_in (is_over lines) (act_by lines u) ≡ true
 
 -- ---- later lines
 
-or_later : (p q r s : Bool) → (p ≡ true → r ≡ true) → (q ≡ true → s ≡ true) → (p || q) ≡ true → (r || s) ≡ true
+pub or_later : (p q r s : Bool) → (p ≡ true → r ≡ true) → (q ≡ true → s ≡ true) → (p || q) ≡ true → (r || s) ≡ true
 or_later true q r s first last is = λ i. first refl i || s
 or_later false q true s first last is = refl
 or_later false q false s first last is = last is
@@ -43,7 +45,7 @@ put_later p n None xs ys more is = more is
 put_later {A} p n (Some a) xs ys more is =
     let here : Placed A = record { at = n; it = a } in or_later (p here) (list_any p xs) (p here) (list_any p ys) (λ on. on) more is
 
-read_later : {A : Type 0} (f : List Act → Body → Option A) (p : Placed A → Bool) (xs : List Act) (n : ℕ) (ls ms : List Line) →
+pub read_later : {A : Type 0} (f : List Act → Body → Option A) (p : Placed A → Bool) (xs : List Act) (n : ℕ) (ls ms : List Line) →
     list_any p (read f xs n ls) ≡ true → list_any p (read f xs n (ls ++ ms)) ≡ true
 read_later f p xs n [] ms is = absurd (cc is)
 read_later f p xs n (l ∷ ls) ms is = put_later p n (f xs l.body) (read f (acts_after xs l.body) (n + 1) ls)

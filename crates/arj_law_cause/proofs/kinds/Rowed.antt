@@ -29,7 +29,7 @@ use Rattle.arj_protocol.specs.Copy.{end_copy, holds}
 use Rattle.arj_protocol.specs.Laws.{rows_ended}
 use Rattle.arj_law_cause.proofs.rows.Holders.{one_passes}
 use Rattle.arj_law_cause.proofs.kinds.Anew.{IsEmpty, one_empty}
-use Rattle.arj_law_cause.proofs.kinds.Tells.{SaysBy, asked_all, is_of_ends, other_all, replied, serve_all}
+use Rattle.arj_law_cause.proofs.kinds.Tells.{AskPrepares, SaysBy, asked_all, is_of_ends, other_all, replied, serve_all}
 
 -- a line by which a server's locks go
 abbrev pub is_free : Body → Bool
@@ -42,6 +42,11 @@ IsFreeLine b = is_free b ≡ true
 others_free : (b : Body) → is_of_ends b ≡ false → IsFreeLine b
 others_free (body.Told n u f p) is = absurd (cc is)
 others_free b is = refl
+
+free_prepared : (k : ℕ) (h : Head) (a : Ask) → AskPrepares IsFreeLine k h a
+free_prepared k h (Words.ask.Prepare states) = refl
+free_prepared k h (Words.ask.Confirm grants excluded included) = λ some. refl
+free_prepared k h a = tt
 
 -- ---- copies are told apart by their numbers
 
@@ -133,7 +138,7 @@ module _ (k e : ℕ) where
   IsTableOf s ls = (x : ℕ) → rows_on (object x) (table k ls) ≡ server_rows x s
 
   -- it keeps them behind such a line
-  abbrev stays : Body → Bool
+  abbrev pub stays : Body → Bool
   stays (body.Told n u f part.Naming) = true
   stays (body.Done n u r f) = true
   stays b = false
@@ -157,7 +162,7 @@ module _ (k e : ℕ) where
       same (body.Done n u r f) is = refl
       same b is = absurd (cc is)
 
-  abbrev IsStill : Effect → Type 0
+  abbrev pub IsStill : Effect → Type 0
   IsStill (Say b) = stays b ≡ true
   IsStill (Do w) = ⊤
   IsStill (Send to m) = ⊥
@@ -207,7 +212,7 @@ module _ (k e : ℕ) where
               here = ap (λ (z : Row). is_on z.holder u) is ∙ on
 
   -- what naming does at an end leaves them
-  told_still : (u : Uid) (f : End) (p : Pair) (o : Naming) → AllByRecursion IsStill (naming.told u f p o).outs
+  pub told_still : (u : Uid) (f : End) (p : Pair) (o : Naming) → AllByRecursion IsStill (naming.told u f p o).outs
   told_still u f p o =
       let d = cond {A = Did Naming} (is_on o.told u) (did_nothing o) (told_new u (naming.taken_end u f o) p o) in
       all_append IsStill (own_entries u f p) d.outs (own f (is_prepared u p)) (by (is_on o.told u))
@@ -394,7 +399,7 @@ module _ (k e : ℕ) where
     serve_rowed h (ask.Vote i ties es) of = served_rowed h (with_server t) Reply.Voted (server.vote k h.path i ties es t.server)
         (vote_rowed h.path i ties es of)
     serve_rowed h a of = free_by (serve k d t from h a) ls
-        (serve_all IsFreeLine others_free k d t from h a (λ u g f c. absurd (no_end (u, g) c)))
+        (serve_all IsFreeLine others_free k d t from h a (λ u g f c. absurd (no_end (u, g) c)) (free_prepared k h a))
 
     told_rowed : (ack : Bool) (es : List (Uid × End)) (u : Uid) (f : End) → AreOfActions es → RowedBy (handle_told k d t from ack es u f) ls
     told_rowed ack es u f of =
@@ -430,6 +435,7 @@ module _ (k e : ℕ) where
       store = λ u g c. absurd (no_end (u, g) c);
       names = λ u g c. absurd (no_end (u, g) c);
       orphans = λ u g o act c. absurd (no_end (u, g) c);
+      prepares = λ h a is. free_prepared k h a;
     }))
 
     pub message_rowed : (m : Message) → AreOfActions (brought m) → AreOfActions (told_by m) → RowedBy (handle k d t from m) ls
@@ -470,6 +476,7 @@ module _ (k e : ℕ) where
       store = λ u g c. absurd (no_end (u, g) c);
       names = λ u g c. absurd (no_end (u, g) c);
       orphans = λ u g o act c. absurd (no_end (u, g) c);
+      prepares = λ h a is. free_prepared k h a;
     }))
 
     pub silent_rowed : (m : Message) → asks m ≡ None → answers m ≡ None → RowedBy (handle k d t from m) ls

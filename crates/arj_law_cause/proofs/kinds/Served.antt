@@ -1,8 +1,8 @@
 -- The row of servers' ends: where a server says that it was told, a lock of the action or of one below it is in the table
 -- of its node, and the action ended so.
 use Rattle.arj_law_parts.proofs.Words
-use Words.{⊤, ◌≡◌, ◌≤◌, ◌⊎◌, ◌∙◌, ◌==◌, ◌&&◌, ◌||◌, ◌++◌, ◌+◌, not, ℕ, Bool, true, false, if◌then◌else◌, List, [], ◌∷◌, length, Some, None}
-use Words.{refl, sym, ap, subst, arith, inl, inr, ⊎_elim, and_parts, list_all, list_any, AllByRecursion, Contains, In, in_from, in_to, is_on}
+use Words.{⊤, ◌≡◌, ◌≤◌, ◌∙◌, ◌==◌, ◌&&◌, ◌||◌, ◌++◌, ◌+◌, not, ℕ, Bool, true, false, if◌then◌else◌, List, [], ◌∷◌, length, Some, None}
+use Words.{refl, sym, ap, subst, arith, inl, inr, ⊎_elim, and_parts, list_all, list_any, AllByRecursion, Contains, in_from, in_to, is_on}
 use Words.{uid_eq, nobody, Body, End, Event, Header, Line, Message, Start, Uid, Disk, Do, Effect, Say, Send, Handled, Parts}
 use Words.{Took, Void, handle, holders, query_about, AreAll, is_coord_effect, is_coord_line, acts as does, acts_own, again_all}
 use Words.{again_own, all_both, begin_action, parent_of, restart_outs, tick_outs, tolds_again, tolds_again_own, World, Arm, Post, counted}
@@ -131,7 +131,7 @@ all_ends P (e ∷ ends) each = (
 -- ---- what a node says at a message
 
 -- a restart, as moments have it
-restart_is : (e : Event) → is_restart e ≡ true → moments.is_restart e ≡ true
+pub restart_is : (e : Event) → is_restart e ≡ true → moments.is_restart e ≡ true
 restart_is (event.Restart n) is = refl
 restart_is e is = absurd (cc is)
 

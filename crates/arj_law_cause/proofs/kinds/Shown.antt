@@ -29,7 +29,8 @@ use Rattle.arj_journal.specs.ScriptForm.{HeaderInForm, EventInForm}
 use Rattle.arj_model.specs.Actions.{Act, act_in, acts}
 use Rattle.arj_model.specs.CauseNodes.{is_state, shows_object}
 use Rattle.arj_model.specs.CauseSpans.{Here, behind, here_at}
-use Rattle.arj_model.specs.Follows.{Runs}
+use Rattle.arj_model.specs.Caused.{has_cause}
+use Rattle.arj_model.specs.Follows.{AreEnding, Runs, is_ending}
 use Rattle.arj_model.specs.Last.{entry_from, is_among, last_from, listed, object_line, same_list, servers_of_line}
 use Rattle.arj_model.specs.Refusals.{is_down}
 use Rattle.arj_model.specs.Own.{AreAborted, AreGiveUps, Ends, aborted_of, commit_line}
@@ -37,20 +38,19 @@ use Rattle.arj_model.specs.Past.{Along, Past, at_start, block, next}
 use Rattle.arj_promise.specs.Runs.{AreMovesInForm, AreStopsInForm, IsInForm, IsStoppedInForm, Run, journal_by, most_events}
 use Rattle.arj_promise.specs.Starts.{IsFormed}
 use Rattle.arj_text.specs.Label.{name}
-use Rattle.std.specs.Prelude.{drop}
-use Rattle.std.proofs.Math.Seq.{drop-append_seam, take-append_seam}
+use Rattle.std.proofs.Math.Seq.{take-append_seam}
 use Rattle.arj_law_cause.proofs.follow.lines.Events as events
 use Rattle.arj_law_cause.proofs.follow.lines.{Saying.list_both, Showing.shows_all}
 use Rattle.arj_law_cause.proofs.kinds.Held.{AreUpLines, IsHeldCopy, IsHeldEntry, IsHeldLine, IsUpLine, ShowsHeld, held_all}
 use Rattle.arj_law_cause.specs.follow.lines.Lines.{BeginsCommitSo, BeginsSo, HasLines, LinesStep, is_show, may_stand_or_lose}
 use Rattle.arj_law_cause.specs.kinds.Kinds.{is_copy_shown, is_entry_shown}
-use Rattle.arj_law_cause.specs.kinds.Rows.{TestHolds, TestedStep, tested}
-use Rattle.arj_law_cause.specs.kinds.Tests.{is_copy_so, is_entry_so, shows_entry}
+use Rattle.arj_law_cause.proofs.kinds.Stored.{AreLasting, lasting_of}
+use Rattle.arj_law_cause.specs.kinds.Rows.{RowHolds, RowStep, row}
 
 -- ---- other events
 
 -- the line shows nothing that is held
-abbrev is_other : Body → Bool
+abbrev pub is_other : Body → Bool
 is_other (body.Entry x v servers stores) = false
 is_other (body.Copy n x v u payload) = false
 is_other b = true
@@ -143,12 +143,12 @@ lines_other hd p e bodies off l = ap (list_all is_other) l.parts
     (list_both is_other l.others l.last (each_other e l.others off l.only) (last_other e l.own l.last l.ends))
 
 -- such lines pass any test of shown ones
-none_so : (test : Here → Body → Bool) (of : Body → Bool) → ((b : Body) → is_other b ≡ true → of b ≡ false) → (h : Here) (bs : List Body) →
-    AreOther bs → are_so (tested test (λ g. of)) h bs ≡ true
-none_so test of off h [] all = refl
-none_so test of off h (b ∷ bs) all =
+none_so : (of : Body → Bool) → ((b : Body) → is_other b ≡ true → of b ≡ false) → (h : Here) (bs : List Body) →
+    AreOther bs → are_so (row (λ g. of)) h bs ≡ true
+none_so of off h [] all = refl
+none_so of off h (b ∷ bs) all =
     let q = and_parts (is_other b) (list_all is_other bs) all in
-    λ i. (not (off b q.0 i) || test h b) && none_so test of off (behind h b) bs q.1 i
+    λ i. (not (off b q.0 i) || has_cause h b) && none_so of off (behind h b) bs q.1 i
 
 no_entry_of : (b : Body) → is_other b ≡ true → is_entry_shown b ≡ false
 no_entry_of (body.Entry x v servers stores) is = absurd (cc is)
@@ -173,14 +173,13 @@ EntrySo hd st e before x v servers stores =
     shows_object x e && (((entry_from hd st.marks before x).version == v)
     && (same_list (servers_of_line (object_line hd x)) servers && same_list (listed hd before x) stores))
 
-abbrev CopySo : Header → Start → Event → List Line → List Line → List Line → ℕ → ℕ → ℕ → Uid → List ℕ → Bool
-CopySo hd st e before after lines n x v u payload =
-    shows_object x e && (not (is_down st lines n) && (not (is_among (listed hd before x) n)
-    || (not (shows_entry after) || is_state v u payload (last_from hd st.marks before x))))
+abbrev CopySo : Header → Start → Event → List Line → List Line → ℕ → ℕ → ℕ → Uid → List ℕ → Bool
+CopySo hd st e before lines n x v u payload = shows_object x e && (not (is_down st lines n) && (not (is_among (listed hd before x) n)
+    || is_state v u payload (last_from hd st.marks before x)))
 
 -- where nodes stand at their places and files are clean
 module _ (hd : Header) (w t : World) (x e : ℕ) (places : (n : ℕ) (m : Node) → at_place n w.nodes ≡ Some m → m.number ≡ n)
-    (nodes : t.nodes ≡ w.nodes) (clean : IsCleanIn hd w.lines x (see [] w)) where
+    (nodes : t.nodes ≡ w.nodes) (clean : IsCleanIn hd w.lines x (see [] w)) (lasting : AreLasting hd w.lines x (see [] w)) where
   abbrev Entry_now : ObjectState
   Entry_now = entry_from hd w.start.marks w.lines x
 
@@ -195,10 +194,6 @@ module _ (hd : Header) (w t : World) (x e : ℕ) (places : (n : ℕ) (m : Node) 
   first_at y v servers stores h =
       subst (λ k. at_place k w.nodes ≡ Some h.node) (sym (places h.at h.node (in_world h.at h.node h.there)) ∙ eqb-true h.node.number 1 h.first)
       (in_world h.at h.node h.there)
-
-  first_node : (y v : ℕ) (servers stores : List ℕ) → IsHeldEntry x t y v servers stores →
-      (n : Node) × (at_place 1 w.nodes ≡ Some n) × (holder_of (entry x) (let d = n.disk in d.names) ≡ None)
-  first_node y v servers stores h = (h.node, first_at y v servers stores h, h.free)
 
   entry_held : (y v : ℕ) (servers stores : List ℕ) → IsHeldEntry x t y v servers stores →
       EntrySo hd w.start (event.Show x) w.lines y v servers stores ≡ true
@@ -220,27 +215,10 @@ module _ (hd : Header) (w t : World) (x e : ℕ) (places : (n : ℕ) (m : Node) 
       stores_so : same_list (listed hd w.lines x) (state_entry Entry_now).stores ≡ true
       stores_so = (λ i. same_list (listed hd w.lines x) (let e = lists i in e.stores)) ∙ list_same (listed hd w.lines x)
 
-  -- each of these lines shows what was held
-  abbrev AllHeld : List Line → Type 0
-  AllHeld ms = AllByRecursion (λ (l : Line). IsHeldLine x t l.body) ms
-
-  shown_first : (ms : List Line) → AllHeld ms → shows_entry ms ≡ true →
-      (n : Node) × (at_place 1 w.nodes ≡ Some n) × (holder_of (entry x) (let d = n.disk in d.names) ≡ None)
-  shown_first [] all is = absurd (cc is)
-  shown_first (l ∷ ms) all is = by l.body all.0 (shown_first ms all.1) is
-    where
-      by : (b : Body) → IsHeldLine x t b → (shows_entry ms ≡ true →
-          (n : Node) × (at_place 1 w.nodes ≡ Some n) × (holder_of (entry x) (let d = n.disk in d.names) ≡ None)) →
-          (is_entry_shown b || shows_entry ms) ≡ true →
-          (n : Node) × (at_place 1 w.nodes ≡ Some n) × (holder_of (entry x) (let d = n.disk in d.names) ≡ None)
-      by (body.Entry y v servers stores) held ih on = first_node y v servers stores held
-      by b held ih on = ih on
-
-  copy_held : (ms : List Line) → AllHeld ms → (n y v : ℕ) (u : Uid) (payload : List ℕ) → IsHeldCopy x t n y v u payload →
-      is_down w.start (w.lines ++ ms) n ≡ false →
-      CopySo hd w.start (event.Show x) w.lines ms (w.lines ++ ms) n y v u payload ≡ true
-  copy_held ms all n y v u payload h up =
-      (λ i. CopySo hd w.start (event.Show x) w.lines ms (w.lines ++ ms) n (h.shows i) (h.version i) (h.writer i) (h.content i))
+  copy_held : (ms : List Line) → (n y v : ℕ) (u : Uid) (payload : List ℕ) → IsHeldCopy x t n y v u payload →
+      is_down w.start (w.lines ++ ms) n ≡ false → CopySo hd w.start (event.Show x) w.lines (w.lines ++ ms) n y v u payload ≡ true
+  copy_held ms n y v u payload h up =
+      (λ i. CopySo hd w.start (event.Show x) w.lines (w.lines ++ ms) n (h.shows i) (h.version i) (h.writer i) (h.content i))
       ∙ (λ i. same_number x i && (not (up i) && listed_so (is_among (listed hd w.lines x) n) refl i))
     where
       at : n ≡ h.at
@@ -249,21 +227,16 @@ module _ (hd : Header) (w t : World) (x e : ℕ) (places : (n : ℕ) (m : Node) 
       Same : Bool
       Same = is_state h.state.version h.state.writer h.state.payload Last_now
 
-      same : is_among (listed hd w.lines x) n ≡ true → shows_entry ms ≡ true → Same ≡ true
-      same on shows =
-          let f = shown_first ms all shows in
-          let is : h.state ≡ Last_now = some_is (sym h.held ∙ clean.stores f.0 h.node h.at f.1 (in_world h.at h.node h.there)
-          (subst (λ k. is_among (listed hd w.lines x) k ≡ true) at on) f.2 h.free) in
+      same : is_among (listed hd w.lines x) n ≡ true → Same ≡ true
+      same on =
+          let is : h.state ≡ Last_now = some_is (sym h.held ∙ lasting h.node h.at (in_world h.at h.node h.there)
+          (subst (λ k. is_among (listed hd w.lines x) k ≡ true) at on) h.free) in
           ap (λ (z : ObjectState). is_state z.version z.writer z.payload Last_now) is
           ∙ (λ i. same_number (let z = Last_now in z.version) i && (uid_same (let z = Last_now in z.writer) i
           && list_same (let z = Last_now in z.payload) i))
 
-      shown_so : is_among (listed hd w.lines x) n ≡ true → (b : Bool) → shows_entry ms ≡ b → (not b || Same) ≡ true
-      shown_so on true shows = same on shows
-      shown_so on false none = refl
-
-      listed_so : (b : Bool) → is_among (listed hd w.lines x) n ≡ b → (not b || (not (shows_entry ms) || Same)) ≡ true
-      listed_so true on = shown_so on (shows_entry ms) refl
+      listed_so : (b : Bool) → is_among (listed hd w.lines x) n ≡ b → (not b || Same) ≡ true
+      listed_so true on = same on
       listed_so false off = refl
 
   -- where a line comes behind these lines of the event
@@ -278,21 +251,17 @@ module _ (hd : Header) (w t : World) (x e : ℕ) (places : (n : ℕ) (m : Node) 
   before_is : (h : Here) (ms : List Line) → IsHere h ms → take h.first h.lines ≡ w.lines
   before_is h ms is = (λ i. take (is.first i) (is.lines i)) ∙ take-append_seam w.lines ms
 
-  after_is : (h : Here) (ms : List Line) → IsHere h ms → drop h.first h.lines ≡ ms
-  after_is h ms is = (λ i. drop (is.first i) (is.lines i)) ∙ drop-append_seam w.lines ms
-
-  entry_at : (h : Here) (ms : List Line) → IsHere h ms → (b : Body) → IsHeldLine x t b →
-      tested is_entry_so (λ g. is_entry_shown) h b ≡ true
+  entry_at : (h : Here) (ms : List Line) → IsHere h ms → (b : Body) → IsHeldLine x t b → row (λ g. is_entry_shown) h b ≡ true
   entry_at h ms is (body.Entry y v servers stores) held =
       (λ i. EntrySo (is.header i) (is.start i) (is.event i) (before_is h ms is i) y v servers stores) ∙ entry_held y v servers stores held
   entry_at h ms is b held = refl
 
-  copy_at : (h : Here) (ms : List Line) → IsHere h ms → AllHeld ms → (b : Body) → IsHeldLine x t b → IsUpLine w.start (w.lines ++ ms) b →
-      tested is_copy_so (λ g. is_copy_shown) h b ≡ true
-  copy_at h ms is all (body.Copy n y v u payload) held up =
-      (λ i. CopySo (is.header i) (is.start i) (is.event i) (before_is h ms is i) (after_is h ms is i) (is.lines i) n y v u payload)
-      ∙ copy_held ms all n y v u payload held up
-  copy_at h ms is all b held up = refl
+  copy_at : (h : Here) (ms : List Line) → IsHere h ms → (b : Body) → IsHeldLine x t b → IsUpLine w.start (w.lines ++ ms) b →
+      row (λ g. is_copy_shown) h b ≡ true
+  copy_at h ms is (body.Copy n y v u payload) held up =
+      (λ i. CopySo (is.header i) (is.start i) (is.event i) (before_is h ms is i) (is.lines i) n y v u payload)
+      ∙ copy_held ms n y v u payload held up
+  copy_at h ms is b held up = refl
 
   further : (h : Here) (ms : List Line) (b : Body) → IsHere h ms → IsHere (behind h b) (ms ++ record { event = h.number; body = b } ∷ [])
   further h ms b is = record {
@@ -305,18 +274,17 @@ module _ (hd : Header) (w t : World) (x e : ℕ) (places : (n : ℕ) (m : Node) 
     number = is.number;
   }
 
-  pub shown_so : (h : Here) (ms : List Line) (bs : List Body) → IsHere h ms → AllHeld ms → AllByRecursion (IsHeldLine x t) bs →
+  pub shown_so : (h : Here) (ms : List Line) (bs : List Body) → IsHere h ms → AllByRecursion (IsHeldLine x t) bs →
       AreUpLines w.start e (w.lines ++ ms) bs →
-      (are_so (tested is_entry_so (λ g. is_entry_shown)) h bs ≡ true) × (are_so (tested is_copy_so (λ g. is_copy_shown)) h bs ≡ true)
-  shown_so h ms [] is all held ups = (refl, refl)
-  shown_so h ms (b ∷ bs) is all held ups =
+      (are_so (row (λ g. is_entry_shown)) h bs ≡ true) × (are_so (row (λ g. is_copy_shown)) h bs ≡ true)
+  shown_so h ms [] is held ups = (refl, refl)
+  shown_so h ms (b ∷ bs) is held ups =
       let l : Line = record { event = h.number; body = b } in
-      let r = shown_so (behind h b) (ms ++ l ∷ []) bs (further h ms b is)
-      (all_append (λ (k : Line). IsHeldLine x t k.body) ms (l ∷ []) all (held.0, tt)) held.1
+      let r = shown_so (behind h b) (ms ++ l ∷ []) bs (further h ms b is) held.1
       (subst (λ ls. AreUpLines w.start e ls bs) ((λ i. (w.lines ++ ms) ++ numbered (sym is.number i) (b ∷ []))
       ∙ append_assoc w.lines ms (l ∷ [])) ups.1) in (
         (λ i. entry_at h ms is b held.0 i && r.0 i),
-        (λ i. copy_at h ms is all b held.0 ups.0 i && r.1 i),
+        (λ i. copy_at h ms is b held.0 ups.0 i && r.1 i),
       )
 
 -- an object with a class has its line
@@ -343,13 +311,30 @@ long_more (k ∷ ms) m = ap suc (long_more ms m) ∙ by (length ms)
 
 -- files are clean after each run
 clean_after : (hd : Header) (r : Run hd) → IsInForm hd r → (x : ℕ) → is_some (object_line hd x) ≡ true →
-    IsCleanIn hd (journal_by hd r) x (see [] (world_by hd r))
+    IsCleanIn hd (journal_by hd r) x (see [] (world_by hd r)) × AreLasting hd (journal_by hd r) x (see [] (world_by hd r))
 clean_after hd r form x there =
     let h = runs_in_form hd r form in
     let w = world_by hd r in
     let keeping = (let k = h.0 in k.keeping) in
     let joined = reached_both hd form.header w h.0 h.1 in
-    clean_of hd w keeping form.header (lock_tied hd w keeping joined) (held_in hd w keeping joined) (decides_in hd w keeping joined) x there
+    let tied = lock_tied hd w keeping joined in
+    let held = held_in hd w keeping joined in
+    let decide = decides_in hd w keeping joined in
+    (clean_of hd w keeping form.header tied held decide x there, lasting_of hd w keeping form.header tied held decide x there)
+
+-- What a line shows was held behind some run in form, of an object of the header.
+pub record WasHeld (hd : Header) (b : Body) : Type 0 where
+  pub run : Run hd
+  pub form : IsInForm hd run
+  pub x : ℕ
+  pub there : is_some (object_line hd x) ≡ true
+  pub world : World
+  pub nodes : world.nodes ≡ (let w = world_by hd run in w.nodes)
+  pub held : IsHeldLine x world b
+
+-- or it shows nothing
+abbrev pub ShowsHeldLine : Header → Body → Type 0
+ShowsHeldLine hd b = (is_other b ≡ true) ⊎ WasHeld hd b
 
 module _ (hd : Header) (form : HeaderInForm hd) (st : Start) (formed : IsFormed hd st) where
   -- an event and its stops are in form
@@ -368,23 +353,26 @@ module _ (hd : Header) (form : HeaderInForm hd) (st : Start) (formed : IsFormed 
   abbrev run_to : (p : Past) (w : World) → Stands p w → Run hd
   run_to p w s = record { start = st; formed = formed; moves = s.front }
 
+  form_now : (p : Past) (w : World) (s : Stands p w) → p.count ≤ most_events → IsInForm hd (run_to p w s)
+  form_now p w s few = record {
+    header = form;
+    events = s.events_form;
+    few = subst (λ n. n ≤ most_events) (sym s.long) few;
+    stops = s.stops_form;
+  }
+
   clean_now : (p : Past) (w : World) (s : Stands p w) → p.count ≤ most_events → (x : ℕ) → is_some (object_line hd x) ≡ true →
-      IsCleanIn hd w.lines x (see [] w)
-  clean_now p w s few x there = subst (λ (v : World). IsCleanIn hd v.lines x (see [] v)) (sym s.world)
-      (clean_after hd (run_to p w s) (record {
-        header = form;
-        events = s.events_form;
-        few = subst (λ n. n ≤ most_events) (sym s.long) few;
-        stops = s.stops_form;
-      }) x there)
+      IsCleanIn hd w.lines x (see [] w) × AreLasting hd w.lines x (see [] w)
+  clean_now p w s few x there = subst (λ (v : World). IsCleanIn hd v.lines x (see [] v) × AreLasting hd v.lines x (see [] v)) (sym s.world)
+      (clean_after hd (run_to p w s) (form_now p w s few) x there)
 
   start_now : (p : Past) (w : World) (s : Stands p w) → w.start ≡ st
   start_now p w s = ap (λ (v : World). v.start) s.world ∙ start_stays hd (run_to p w s)
 
-  -- both rows, in runs of few events
+  -- both rows, in runs of few events, and what is shown was held
   abbrev Both : Past → Event → List Body → Type 0
   Both p e bodies = p.count ≤ most_events →
-      TestedStep is_entry_so (λ h. is_entry_shown) hd p e bodies × TestedStep is_copy_so (λ h. is_copy_shown) hd p e bodies
+      (RowStep (λ h. is_entry_shown) hd p e bodies × RowStep (λ h. is_copy_shown) hd p e bodies) × AllByRecursion (ShowsHeldLine hd) bodies
 
   module _ (m : Move) (p : Past) (w : World) (s : Stands p w) (on : w.over ≡ false) where
     abbrev t : World
@@ -404,9 +392,16 @@ module _ (hd : Header) (form : HeaderInForm hd) (st : Start) (formed : IsFormed 
 
     other_both : (e : Event) (bodies : List Body) → AreOther bodies → Both p e bodies
     other_both e bodies other few = (
-      none_so is_entry_so is_entry_shown no_entry_of (here_at hd p e bodies) bodies other,
-      none_so is_copy_so is_copy_shown no_copy_of (here_at hd p e bodies) bodies other,
+      (
+        none_so is_entry_shown no_entry_of (here_at hd p e bodies) bodies other,
+        none_so is_copy_shown no_copy_of (here_at hd p e bodies) bodies other,
+      ),
+      each bodies other,
     )
+      where
+        each : (bs : List Body) → AreOther bs → AllByRecursion (ShowsHeldLine hd) bs
+        each [] are = tt
+        each (b ∷ bs) are = let q = and_parts (is_other b) (list_all is_other bs) are in (inl q.0, each bs q.1)
 
     -- an object that is shown is there
     object_there : (x : ℕ) → refused_by_any (event.Show x) t ≡ None → is_some (object_line hd x) ≡ true
@@ -420,18 +415,36 @@ module _ (hd : Header) (form : HeaderInForm hd) (st : Start) (formed : IsFormed 
     show_both : (x : ℕ) (bodies : List Body) → refused_by_any (event.Show x) t ≡ None →
         w.lines ++ block t.event bodies ≡ (limited (show_all x (node_numbers t) t)).lines → Both p (event.Show x) bodies
     show_both x bodies none lines few =
-        shown_so hd w t x t.event places refl (clean_now p w s few x (object_there x none))
-        (here_at hd p (event.Show x) bodies) [] bodies (record {
-          header = refl;
-          start = start;
-          event = refl;
-          first = ap length base.lines;
-          lines = base.lines ∙ sym (append-nil w.lines);
-          number = λ i. base.count i + 1;
-        }) tt (subst (AllByRecursion (IsHeldLine x t)) (sym are) held.has)
-        (subst (λ ls. AreUpLines w.start t.event ls bodies) (sym (append-nil w.lines))
-        (subst (AreUpLines w.start t.event w.lines) (sym are) held.ups))
+        let c = clean_now p w s few x (object_there x none) in (
+          shown_so hd w t x t.event places refl c.0 c.1
+              (here_at hd p (event.Show x) bodies) [] bodies (record {
+                header = refl;
+                start = start;
+                event = refl;
+                first = ap length base.lines;
+                lines = base.lines ∙ sym (append-nil w.lines);
+                number = λ i. base.count i + 1;
+              }) (subst (AllByRecursion (IsHeldLine x t)) (sym are) held.has)
+              (subst (λ ls. AreUpLines w.start t.event ls bodies) (sym (append-nil w.lines))
+              (subst (AreUpLines w.start t.event w.lines) (sym are) held.ups)),
+          each bodies (subst (AllByRecursion (IsHeldLine x t)) (sym are) held.has),
+        )
       where
+        each : (bs : List Body) → AllByRecursion (IsHeldLine x t) bs → AllByRecursion (ShowsHeldLine hd) bs
+        each [] all = tt
+        each (b ∷ bs) all = (
+          inr (record {
+            run = run_to p w s;
+            form = form_now p w s few;
+            x = x;
+            there = object_there x none;
+            world = t;
+            nodes = ap (λ (v : World). v.nodes) s.world;
+            held = all.0;
+          }),
+          each bs all.1,
+        )
+
         places : (n : ℕ) (q : Node) → at_place n w.nodes ≡ Some q → q.number ≡ n
         places n q there = (let b = base.placed in b.nodes n q there).1
 
@@ -551,10 +564,43 @@ few_run hd r form A B to runs = (
     short : (top n k : ℕ) → n ≤ k → k ≤ top → 0 + n ≤ top
     short top n k a b = omega (arith, a, b)
 
-pub entry_row : TestHolds is_entry_so is_entry_shown
-entry_row hd r form = few_run hd r form (Both hd form.header r.start r.formed) (TestedStep is_entry_so (λ h. is_entry_shown) hd)
-    (λ p e bodies few both. (both few).0) (both_run hd r form)
+pub entry_row : RowHolds is_entry_shown
+entry_row hd r form = few_run hd r form (Both hd form.header r.start r.formed) (RowStep (λ h. is_entry_shown) hd)
+    (λ p e bodies few both. (both few).0.0) (both_run hd r form)
 
-pub copy_row : TestHolds is_copy_so is_copy_shown
-copy_row hd r form = few_run hd r form (Both hd form.header r.start r.formed) (TestedStep is_copy_so (λ h. is_copy_shown) hd)
-    (λ p e bodies few both. (both few).1) (both_run hd r form)
+pub copy_row : RowHolds is_copy_shown
+copy_row hd r form = few_run hd r form (Both hd form.header r.start r.formed) (RowStep (λ h. is_copy_shown) hd)
+    (λ p e bodies few both. (both few).0.1) (both_run hd r form)
+
+-- ---- lines
+
+abbrev AllShow : Header → List Line → Type 0
+AllShow hd lines = AllByRecursion (λ (l : Line). ShowsHeldLine hd l.body) lines
+
+block_shows : (hd : Header) (n : ℕ) (bs : List Body) → AllByRecursion (ShowsHeldLine hd) bs → AllShow hd (block n bs)
+block_shows hd n [] all = tt
+block_shows hd n (b ∷ bs) all = (all.0, block_shows hd n bs all.1)
+
+along_shows : (hd : Header) (es : List Event) (p end : Past) → Along (λ q e bodies. AllByRecursion (ShowsHeldLine hd) bodies) p es end →
+    AllShow hd p.lines → AllShow hd end.lines
+along_shows hd [] p end a so = subst (λ (q : Past). AllShow hd q.lines) a so
+along_shows hd (e ∷ es) p end a so = along_shows hd es (next p e a.0) end a.2
+    (all_append (λ (l : Line). ShowsHeldLine hd l.body) p.lines (block (p.count + 1) a.0) so (block_shows hd (p.count + 1) a.0 a.1))
+
+ending_shows : (hd : Header) (n : ℕ) (ending : List Line) → AreEnding n ending → AllShow hd ending
+ending_shows hd n [] are = tt
+ending_shows hd n (l ∷ []) are = (inl (one l.body are.1), tt)
+  where
+    one : (b : Body) → is_ending b ≡ true → is_other b ≡ true
+    one (body.Entry x v servers stores) is = absurd (cc is)
+    one (body.Copy n x v u payload) is = absurd (cc is)
+    one b is = refl
+ending_shows hd n (l ∷ m ∷ rest) are = absurd are
+
+-- each line of a run that shows something shows what was held
+pub runs_show_held : (hd : Header) (r : Run hd) → IsInForm hd r → AllShow hd (journal_by hd r)
+runs_show_held hd r form =
+    let q = few_run hd r form (Both hd form.header r.start r.formed) (λ p e bodies. AllByRecursion (ShowsHeldLine hd) bodies)
+    (λ p e bodies few both. (both few).1) (both_run hd r form) in
+    subst (AllShow hd) (sym q.3) (all_append (λ (l : Line). ShowsHeldLine hd l.body) (let p = q.0 in p.lines) q.1
+    (along_shows hd (run_events hd r) (at_start r.start) q.0 q.2 tt) (ending_shows hd (length (run_events hd r)) q.1 q.4))

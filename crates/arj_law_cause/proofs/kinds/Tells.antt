@@ -14,7 +14,8 @@ use Words.{is_earlier, load_by, load_held, naming_told, prepare_by, prepare_stat
 use Words.{with_coord, with_naming, with_server, at_number, at_uid, binding_eq, binding_less, AreAll, is_coord_effect, is_coord_line}
 use Words.{Kept, Server, active_binding, apply_ends, changed_by, end_new, end_one, first_unbound, has_ended, invoke_kept, invoke_new}
 use Words.{invoke_now, is_below, is_told, on_copy, other_inc, took_copy, vote_now, acked_own, filter, heard_own, map, map_own}
-use Words.{query_own}
+use Words.{query_own, arith, nat_tests, ap, cons_option, entry, entry_after, same_nodes, state_entry, ◌&&◌}
+use Rattle.arj_protocol.specs.Confirm.{entry_state}
 use Words.ask
 use Words.body
 use Words.confirmed
@@ -30,20 +31,23 @@ use Rattle.arj_law_parts.specs.steps.Spoken.{SaidIn}
 use Rattle.arj_law_promise.proofs.settling.NamesLines.{all_locks, bind_locks, is_lock_line, note_locks}
 use Rattle.arj_law_runs.proofs.addresses.Lists.{all_append}
 
--- a line about an action's end at a part, or at a store or naming's disk
+-- a line about an action's end at a part, or about what a store or naming prepares or ends
 abbrev pub is_of_ends : Body → Bool
 is_of_ends (body.Told n u e p) = true
 is_of_ends (body.Done n u r e) = true
+is_of_ends (body.Prepared n u r) = true
 is_of_ends b = false
 
 coord_none : (b : Body) → is_coord_line b ≡ true → is_of_ends b ≡ false
 coord_none (body.Told n u e p) is = absurd (cc is)
 coord_none (body.Done n u r e) is = absurd (cc is)
+coord_none (body.Prepared n u r) is = absurd (cc is)
 coord_none b is = refl
 
 lock_none : (b : Body) → is_lock_line (Say b) ≡ true → is_of_ends b ≡ false
 lock_none (body.Told n u e p) is = absurd (cc is)
 lock_none (body.Done n u r e) is = absurd (cc is)
+lock_none (body.Prepared n u r) is = absurd (cc is)
 lock_none b is = refl
 
 -- the last of the ends is among them
@@ -55,6 +59,13 @@ last_among es e is = in_to e es (by es is)
     by (f ∷ []) is = inl (let k : ◌≡◌ {A = Option (Uid × End)} (Some f) (Some e) = is in cc)
     by (f ∷ g ∷ fs) is = inr (by (g ∷ fs) is)
 
+-- What a request has prepared: a store something for who asks, and naming, where stores are excluded or included, something for its top.
+abbrev pub AskPrepares : (Body → Type 0) → ℕ → Head → Ask → Type 0
+AskPrepares S k h (ask.Prepare states) = S (body.Prepared k (actor h.path) role.Store)
+AskPrepares S k h (ask.Confirm grants excluded included) =
+    ((excluded ≡ []) × (included ≡ []) → ⊥) → S (body.Prepared 1 (top_of h.path) role.Names)
+AskPrepares S k h _ = ⊤
+
 -- What has to be shown of such lines: each end that comes with the message, taken as any end, by the server; and by the store and naming
 -- each that it tells, and whoever loses a row with one that is taken as an abort.
 pub record FitsEnds (S : Body → Type 0) (k : ℕ) (d : Disk) (t : Parts) (m : Message) : Type 0 where
@@ -65,6 +76,25 @@ pub record FitsEnds (S : Body → Type 0) (k : ℕ) (d : Disk) (t : Parts) (m : 
   pub names : (u : Uid) (e : End) → Contains {X = Uid × End} (told_by m) (u, e) → S (body.Done 1 u role.Names e)
   pub orphans : (u : Uid) (e : End) (o : Naming) (act : Uid) → Contains {X = Uid × End} (told_by m) (u, e) → t.naming ≡ Some o →
       is_on (orphans u d.names o) act ≡ true → S (body.Done 1 act role.Names ending.Abort)
+  pub prepares : (h : Head) (a : Ask) → asks m ≡ Some (h, a) → AskPrepares S k h a
+
+-- entries stay where nothing is excluded or included
+none_after : (top : Uid) (grants : Grants) (d : Pair) → entries_after top grants [] [] d ≡ []
+none_after top [] d = refl
+none_after top (g ∷ grants) d = by (held_at (entry g.0) d) (none_after top grants d)
+  where
+    same : (ns : List ℕ) → same_nodes ns ns ≡ true
+    same [] = refl
+    same (n ∷ ns) = λ i. itself n i && same ns i
+      where
+        itself : (n : ℕ) → (n == n) ≡ true
+        itself n = grind (arith, nat_tests)
+
+    by : (o : Option ObjectState) → entries_after top grants [] [] d ≡ [] →
+        cons_option (entry_after top [] [] g.0 o) (entries_after top grants [] [] d) ≡ []
+    by None rest = rest
+    by (Some s) rest = (λ i. cons_option (cond (same (let e = state_entry s in e.stores) i) None
+        (Some (entry_state g.0 top s (let e = state_entry s in e.stores)))) (entries_after top grants [] [] d)) ∙ rest
 
 module _ (S : Body → Type 0) (other : (b : Body) → is_of_ends b ≡ false → S b) where
   abbrev pub AllSay : List Effect → Type 0
@@ -168,8 +198,9 @@ module _ (S : Body → Type 0) (other : (b : Body) → is_of_ends b ≡ false �
   -- ---- naming
 
   confirm_all : (p : Path) (grants : Grants) (excluded included : Marks) (d : Pair) (n : Naming) →
+      (((excluded ≡ []) × (included ≡ []) → ⊥) → S (body.Prepared 1 (top_of p) role.Names)) →
       AllSay (confirm p grants excluded included d n).outs
-  confirm_all p grants excluded included d n =
+  confirm_all p grants excluded included d n its =
       by (is_over p n || not (has_all grants n)) (is_on n.confirmed (top_of p) || is_prepared (top_of p) d)
       (checked p grants excluded included d n)
     where
@@ -179,16 +210,24 @@ module _ (S : Body → Type 0) (other : (b : Body) → is_of_ends b ≡ false �
       granted : AllSay locks.outs
       granted = locks_all locks.outs (all_locks (wanted (top_of p) grants excluded d) p n)
 
-      prepares : (states : List ObjectState) (a : Prep) → AllSay (prepared_by (top_of p) states locks a).outs
-      prepares states Ready = all_append (SaidIn S) locks.outs (Do Look ∷ Do (Prepare role.Names (top_of p) states)
-          ∷ Say (body.Prepared 1 (top_of p) role.Names) ∷ []) granted (tt, (tt, (other (body.Prepared 1 (top_of p) role.Names) refl, tt)))
-      prepares states (Already u) = all_append (SaidIn S) locks.outs (Do Look ∷ []) granted (tt, tt)
-      prepares states (Old u v) = all_append (SaidIn S) locks.outs (Do Look ∷ []) granted (tt, tt)
-      prepares states (InDoubt u v) = all_append (SaidIn S) locks.outs (Do Look ∷ []) granted (tt, tt)
+      prepares : S (body.Prepared 1 (top_of p) role.Names) → (states : List ObjectState) (a : Prep) →
+          AllSay (prepared_by (top_of p) states locks a).outs
+      prepares so states Ready = all_append (SaidIn S) locks.outs (Do Look ∷ Do (Prepare role.Names (top_of p) states)
+          ∷ Say (body.Prepared 1 (top_of p) role.Names) ∷ []) granted (tt, (tt, (so, tt)))
+      prepares so states (Already u) = all_append (SaidIn S) locks.outs (Do Look ∷ []) granted (tt, tt)
+      prepares so states (Old u v) = all_append (SaidIn S) locks.outs (Do Look ∷ []) granted (tt, tt)
+      prepares so states (InDoubt u v) = all_append (SaidIn S) locks.outs (Do Look ∷ []) granted (tt, tt)
 
-      entries : (states : List ObjectState) → AllSay (confirm_entries (top_of p) states d locks).outs
-      entries [] = granted
-      entries (s ∷ ss) = prepares (s ∷ ss) (prepare_answer (top_of p) (s ∷ ss) d)
+      -- entries change by what is excluded or included
+      bare : (excluded ≡ []) × (included ≡ []) → entries_after (top_of p) grants excluded included d ≡ []
+      bare none = ap (λ e. entries_after (top_of p) grants e included d) none.0 ∙ ap (λ e. entries_after (top_of p) grants [] e d) none.1
+          ∙ none_after (top_of p) grants d
+
+      entries : (states : List ObjectState) → entries_after (top_of p) grants excluded included d ≡ states →
+          AllSay (confirm_entries (top_of p) states d locks).outs
+      entries [] is = granted
+      entries (s ∷ ss) is = prepares (its (λ none. let no_way : s ∷ ss ≡ [] = sym is ∙ bare none in cc no_way)) (s ∷ ss)
+          (prepare_answer (top_of p) (s ∷ ss) d)
 
       by : (v e : Bool) (r : Option ConfirmedReply) →
           AllSay (cond {A = Served Naming ConfirmedReply} v (void n) (cond {A = Served Naming ConfirmedReply} e
@@ -196,7 +235,7 @@ module _ (S : Body → Type 0) (other : (b : Body) → is_of_ends b ≡ false �
       by true e r = tt
       by false true r = tt
       by false false (Some r) = tt
-      by false false None = entries (entries_after (top_of p) grants excluded included d)
+      by false false None = entries (entries_after (top_of p) grants excluded included d) refl
 
   entries_all : (u : Uid) (e : End) → S (body.Done 1 u role.Names e) → AllSay (end_entries u e)
   entries_all u ending.Commit its = (tt, (its, tt))
@@ -214,7 +253,8 @@ module _ (S : Body → Type 0) (other : (b : Body) → is_of_ends b ≡ false �
       or_true true = refl
       or_true false = refl
 
-  pub named_all : (u : Uid) (e : End) (d : Pair) (o : Naming) → S (body.Done 1 u role.Names e) → ((f : End) → S (body.Told 1 u f part.Naming)) →
+  pub named_all : (u : Uid) (e : End) (d : Pair) (o : Naming) → S (body.Done 1 u role.Names e) →
+      ((f : End) → S (body.Told 1 u f part.Naming)) →
       ((w : Uid) → is_on (orphans u d o) w ≡ true → S (body.Done 1 w role.Names ending.Abort)) → AllSay (naming.told u e d o).outs
   named_all u e d o ends its others =
       let t = cond {A = Did Naming} (is_on o.told u) (did_nothing o) (told_new u (naming.taken_end u e o) d o) in
@@ -267,11 +307,12 @@ module _ (S : Body → Type 0) (other : (b : Body) → is_of_ends b ≡ false �
           by None = tt
           by (Some s) = (tt, (tt, tt))
 
-      prepare_all : (p : Pair) (states : List ObjectState) → SaysBy (prepare_states k p states from h t)
-      prepare_all p states = by (is_prepared (actor h.path) p)
+      prepare_all : (p : Pair) (states : List ObjectState) → S (body.Prepared k (actor h.path) role.Store) →
+          SaysBy (prepare_states k p states from h t)
+      prepare_all p states its = by (is_prepared (actor h.path) p)
         where
           answer : (a : Prep) → SaysBy (prepare_by k states from h t a)
-          answer Ready = (tt, (tt, (other (body.Prepared k (actor h.path) role.Store) refl, (tt, tt))))
+          answer Ready = (tt, (tt, (its, (tt, tt))))
           answer (Already u) = tt
           answer (Old u v) = (tt, (tt, tt))
           answer (InDoubt u v) = (tt, (tt, tt))
@@ -281,22 +322,22 @@ module _ (S : Body → Type 0) (other : (b : Body) → is_of_ends b ≡ false �
           by true = (tt, tt)
           by false = answer (prepare_answer (actor h.path) states p)
 
-      pub serve_all : (a : Ask) → EachEnd k (brought_by (Some (h, a))) → SaysBy (serve k d t from h a)
-      serve_all (ask.Bind x include avoid) each = given_all Reply.Bound (naming.bind h.path x include avoid d.names) t.naming
+      pub serve_all : (a : Ask) → EachEnd k (brought_by (Some (h, a))) → AskPrepares S k h a → SaysBy (serve k d t from h a)
+      serve_all (ask.Bind x include avoid) each its = given_all Reply.Bound (naming.bind h.path x include avoid d.names) t.naming
           (λ n. locks_all (naming.bind h.path x include avoid d.names n).outs (bind_locks h.path x include avoid d.names n))
-      serve_all (ask.Load x) each = load_all x d.store (holder_of (object x) d.store)
-      serve_all (ask.Activate b st) each = served_all (with_server t) Reply.Activated (server.activate k h.path b st t.server)
+      serve_all (ask.Load x) each its = load_all x d.store (holder_of (object x) d.store)
+      serve_all (ask.Activate b st) each its = served_all (with_server t) Reply.Activated (server.activate k h.path b st t.server)
           (activate_all k h.path b st t.server)
-      serve_all (ask.Record x b i g) each = given_all Reply.Noted (naming.note h.path x b i g) t.naming
+      serve_all (ask.Record x b i g) each its = given_all Reply.Noted (naming.note h.path x b i g) t.naming
           (λ n. locks_all (naming.note h.path x b i g n).outs (note_locks h.path x b i g n))
-      serve_all (ask.Invoke x b i es o) each = served_all (with_server t) Reply.Invoked (server.invoke k h x b i es o t.server)
+      serve_all (ask.Invoke x b i es o) each its = served_all (with_server t) Reply.Invoked (server.invoke k h x b i es o t.server)
           (invoke_all k h x b i es o t.server each)
-      serve_all (ask.Vote i ties es) each = served_all (with_server t) Reply.Voted (server.vote k h.path i ties es t.server)
+      serve_all (ask.Vote i ties es) each its = served_all (with_server t) Reply.Voted (server.vote k h.path i ties es t.server)
           (vote_all k h.path i ties es t.server each)
-      serve_all (ask.Prepare states) each = prepare_all d.store states
-      serve_all (ask.Confirm grants excluded included) each =
+      serve_all (ask.Prepare states) each its = prepare_all d.store states its
+      serve_all (ask.Confirm grants excluded included) each its =
           given_all Reply.Confirmed (confirm h.path grants excluded included d.names) t.naming
-          (λ n. confirm_all h.path grants excluded included d.names n)
+          (λ n. confirm_all h.path grants excluded included d.names n its)
 
     pub replied : (v : Parts) (outs : List Effect) (r : Option (Unit {0})) → AreAll is_coord_effect outs → SaysBy (by_reply v outs r)
     replied v outs None all = tt
@@ -354,4 +395,4 @@ module _ (S : Body → Type 0) (other : (b : Body) → is_of_ends b ≡ false �
         by : (o : Option (Head × Ask)) → asks m ≡ o → SaysBy (handle_ask k d t from m o)
         by None is = answered (answers m)
         by (Some a) is = serve_all a.0 a.1 (λ u e g c. f.server u e g (inr (subst (λ o. Contains {X = Uid × End} (brought_by o) (u, e))
-            (sym is) c)))
+            (sym is) c))) (f.prepares a.0 a.1 is)

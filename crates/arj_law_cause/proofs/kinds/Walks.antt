@@ -2,22 +2,25 @@
 use Rattle.arj_law_parts.proofs.Words
 use Words.{⊤, ◌≡◌, ◌∙◌, ◌+◌, ◌==◌, ◌++◌, ◌&&◌, ◌||◌, not, ℕ, Bool, true, false, if◌then◌else◌, List, [], ◌∷◌, length, map, Option, Some}
 use Words.{None}
-use Words.{refl, sym, ap, subst, append-nil, append_assoc, map-append, and_parts, list_all, Body, Event, Header, Kind, Label, Line, Message}
+use Words.{refl, sym, ap, subst, inl, inr, in_right, append-nil, append_assoc, map-append, and_parts, list_all, Body, Event, Header, Kind, Label, Line, Message}
 use Words.{Start, Disk, Do, Effect, Say, Send, worked, Parts, Took, handle, is_meant, with_coord, again_all, begin_action, tick_outs}
 use Words.{parent_of, parts_in, restart_outs, numbered, is_serial, Input, acts as does, refusal_up, begin_refusal, Post, frame_kind}
 use Words.body
 use Words.frame
 use Words.input
+use Words.list
 use Rattle.arj_law_parts.proofs.moves.{Flat.post, Together.with_both}
 use Rattle.arj_law_parts.specs.moves.Keeps.{AsksNode, MayGive, is_act, label_at}
-use Rattle.arj_law_parts.specs.moves.Moments.{MayTake, Moment, asks_now, at, fits, framed_if, given, halted, lined, posted, said, up}
+use Rattle.arj_law_parts.specs.moves.Moments.{Asking, MayTake, Moment, asking_of, asks_now, at, fits, framed_if, given, halted, lined, posted, said, up}
+use Rattle.arj_law_parts.specs.moves.Moments.{with_asking}
 use Rattle.arj_law_parts.specs.moves.Seen.{AreQuiet, In, is_quiet_line}
 use Rattle.arj_law_parts.specs.moves.With.{ArePlain, Brings, IsFirst, KeepsSteps, UpWith, WalksWith, is_plain_line}
 use Rattle.arj_law_runs.proofs.follow.Walking.{behind_all}
 use Rattle.arj_law_runs.specs.follow.Frames.{are_so}
 use Rattle.arj_model.specs.CauseSpans.{Here, behind}
 use Rattle.arj_model.specs.Caused.{has_cause}
-use Rattle.arj_model.specs.Past.{Past, asked_of}
+use Rattle.arj_model.specs.Past.{Asked, Past, asked_of}
+use Rattle.arj_model.specs.Refusals.{is_ask_by}
 use Rattle.arj_law_cause.specs.kinds.Rows.{row, tested}
 
 -- ---- lines behind one another
@@ -92,6 +95,11 @@ module _ (test : Here → Body → Bool) (hd : Header) (of : Body → Bool) (qui
   Well (Say b ∷ es) ls = (tested test kind (here_behind ls) b ≡ true) × Well es (ls ++ numbered (q.count + 1) (b ∷ []))
   Well (Send to m ∷ es) ls = (more : List Body) → AreQuiet more → Well es (ls ++ numbered (q.count + 1) more)
 
+  -- each call and each include that was asked is among the accepted events, or it is this one
+  abbrev pub WereAccepted : List Asking → Type 0
+  WereAccepted askings = (k : Asking) → list.In k askings → (l : List ℕ) → is_ask_by l (let a = k.asked in a.event) ≡ true →
+      list.In {X = Asked} k.asked (q.accepted ++ asked_of q e ∷ [])
+
   -- a moment of the event: all lines behind the first ones are of it, and those of the kind pass the test
   pub record Inside (M : Moment) : Type 0 where
     pub event : M.past.event ≡ e
@@ -101,6 +109,7 @@ module _ (test : Here → Body → Bool) (hd : Header) (of : Body → Bool) (qui
     pub wrote : List Body
     pub lines : M.seen.lines ≡ q.lines ++ numbered (q.count + 1) wrote
     pub fit : are_so (tested test kind) first_here wrote ≡ true
+    pub asked : WereAccepted M.past.askings
 
   pub said_inside : (bs : List Body) (M : Moment) → are_so (tested test kind) (here_behind M.seen.lines) bs ≡ true → Inside M →
       Inside (said bs M)
@@ -116,6 +125,7 @@ module _ (test : Here → Body → Bool) (hd : Header) (of : Body → Bool) (qui
     fit = so_both (tested test kind) first_here h.wrote bs h.fit
         (subst (λ g. are_so (tested test kind) g bs ≡ true)
         (sym (behind_lines first_here h.wrote ∙ (λ i. here_behind (sym h.lines i)))) fit);
+    asked = h.asked;
   }
 
   pub same_inside : (M N : Moment) → N.past ≡ M.past → N.seen.start ≡ M.seen.start → N.seen.lines ≡ M.seen.lines → Inside M → Inside N
@@ -127,6 +137,7 @@ module _ (test : Here → Body → Bool) (hd : Header) (of : Body → Bool) (qui
     wrote = h.wrote;
     lines = lines ∙ h.lines;
     fit = h.fit;
+    asked = λ k there. h.asked k (subst (λ z. let p = z in list.In k p.askings) past there);
   }
 
   -- lines of another kind
@@ -164,6 +175,7 @@ module _ (test : Here → Body → Bool) (hd : Header) (of : Body → Bool) (qui
         wrote = o.wrote;
         lines = o.lines;
         fit = o.fit;
+        asked = o.asked;
       }
 
   -- ---- a node's effects
@@ -283,4 +295,26 @@ module _ (test : Here → Body → Bool) (hd : Header) (of : Body → Bool) (qui
         wrote = h.wrote;
         lines = h.lines;
         fit = h.fit;
+        asked = asks_more i h.asked;
       }
+        where
+          -- what is asked now is this event
+          one : (l : Label) → WereAccepted M.past.askings → WereAccepted (asking_of l t.coord M.past.run M.past.event ∷ M.past.askings)
+          one l old k (inl same) m its =
+              subst (λ (z : Asking). list.In {X = Asked} z.asked (q.accepted ++ asked_of q e ∷ [])) same
+              (subst (λ (z : Asked). list.In {X = Asked} z (q.accepted ++ asked_of q e ∷ [])) (λ i. asked_of (sym h.run i) (sym h.event i))
+              (in_right (asked_of q e) q.accepted (asked_of q e ∷ []) (inl refl)))
+          one l old k (inr there) m its = old k there m its
+
+          asks_more : (i : Input) → WereAccepted M.past.askings → WereAccepted (with_asking i t.coord M.past.run M.past.event M.past.askings)
+          asks_more (input.Call l x o) old = one l old
+          asks_more (input.Include l x n) old = one l old
+          asks_more (input.Commit l) old = one l old
+          asks_more (input.Begin l how p) old = old
+          asks_more (input.Abort l) old = old
+          asks_more (input.GiveUp l) old = old
+          asks_more (input.Frame f from m) old = old
+          asks_more input.Tick old = old
+          asks_more input.Restart old = old
+          asks_more input.Crash old = old
+          asks_more (input.Show x) old = old

@@ -3,7 +3,7 @@ use Rattle.arj_law_parts.proofs.Words
 use Words.{◌≡◌, ℕ, true, cond, List, [], ◌∷◌, Option, Some, None, refl, subst, AllByRecursion, list_all, and_parts}
 use Words.{Body, Header, Line, Disk, Effect, Parts, Node, with_coord, Input, acts as does, refusal_up, again_all}
 use Words.{begin_action, branch_named, call, include, on_branch, Branch, parent_of, parts_in, restart_outs, tick_outs, is_serial, Seen}
-use Words.{◌+◌, Answer, CallEnd, Steps, Answered, Lost, Uid}
+use Words.{◌+◌, ◌∙◌, ap, answer_text, Answer, CallEnd, Post, Steps, Answered, Lost, Uid}
 use Words.body
 use Words.frame
 use Words.input
@@ -62,14 +62,14 @@ made_keep hd x form =
 
 -- ---- lines
 
-plain_one : (x : ℕ) (b : Body) → is_plain_line b ≡ true → AnswersOf x b
-plain_one x (body.Ok l y o a) is = absurd (cc is)
-plain_one x b is = tt
+plain_one : (x : ℕ) (posts : List Post) (b : Body) → is_plain_line b ≡ true → AnswersOf x posts b
+plain_one x posts (body.Ok l y o a) is = absurd (cc is)
+plain_one x posts b is = tt
 
-plain_all : (x : ℕ) (bs : List Body) → ArePlain bs → AllByRecursion (AnswersOf x) bs
-plain_all x [] plain = tt
-plain_all x (b ∷ bs) plain = let q = and_parts (is_plain_line b) (list_all is_plain_line bs) plain in
-    (plain_one x b q.0, plain_all x bs q.1)
+plain_all : (x : ℕ) (posts : List Post) (bs : List Body) → ArePlain bs → AllByRecursion (AnswersOf x posts) bs
+plain_all x posts [] plain = tt
+plain_all x posts (b ∷ bs) plain = let q = and_parts (is_plain_line b) (list_all is_plain_line bs) plain in
+    (plain_one x posts b q.0, plain_all x posts bs q.1)
 
 abbrev pub All : Header → ℕ → Moment → Type 0
 All hd x M = Made hd x M × LinesAnswer x M
@@ -130,7 +130,7 @@ module _ (hd : Header) (x : ℕ) (k : ℕ) (d : Disk) (t : Parts) (M : Moment) (
 
 all_step : (hd : Header) (x : ℕ) → HeaderInForm hd → KeepsSteps hd (All hd x)
 all_step hd x form = let made = made_keep hd x form in let steps = made.steps in record {
-  quiet = λ bs M plain h. (steps.quiet bs M plain h.0, said_it x bs M (plain_all x bs plain) h.1);
+  quiet = λ bs M plain h. (steps.quiet bs M plain h.0, said_it x bs M (plain_all x M.seen.sent bs plain) h.1);
   junk = λ n M fit h. (steps.junk n M fit h.0, said_it x (body.Sent (M.past.frames + 1) 0 n frame.Junk ∷ []) M (tt, tt) h.1);
   stop = λ k d live M h. (steps.stop k d live M h.0, said_it x (body.Halted k ∷ []) M (tt, tt) h.1);
   message = λ k d t v from m outs M h there meant may is.
@@ -164,7 +164,7 @@ all_step hd x form = let made = made_keep hd x form in let steps = made.steps in
         WalksWith (LinesAnswer x) k outs (UpWith (LinesAnswer x) k v) d M → WalksWith (All hd x) k outs (UpWith (All hd x) k v) d M
     both k outs v d M a b = with_both (Made hd x) (LinesAnswer x) k outs (UpWith (Made hd x) k v) (UpWith (LinesAnswer x) k v) d M a b
 
-all_keep : (hd : Header) (x : ℕ) → HeaderInForm hd → KeepsAll hd (All hd x)
+pub all_keep : (hd : Header) (x : ℕ) → HeaderInForm hd → KeepsAll hd (All hd x)
 all_keep hd x form = let made = made_keep hd x form in record {
   opens = λ e M first number h. (made.opens e M first number h.0, h.1);
   closes = λ bodies M number lines h. (made.closes bodies M number lines h.0, h.1);
@@ -173,15 +173,15 @@ all_keep hd x form = let made = made_keep hd x form in record {
 }
 
 -- whatever the object
-each_object : (ls : List Line) → ((x : ℕ) → AllByRecursion (λ (line : Line). AnswersOf x line.body) ls) →
+each_object : (ls : List Line) → ((x : ℕ) → (posts : List Post) × AllByRecursion (λ (line : Line). AnswersOf x posts line.body) ls) →
     AllByRecursion (λ (line : Line). AnswersIt line.body) ls
 each_object [] all = tt
-each_object (l ∷ ls) all = (one l.body (λ x. (all x).0), each_object ls (λ x. (all x).1))
+each_object (l ∷ ls) all = (one l.body (λ x. let a = all x in (a.0, a.1.0)), each_object ls (λ x. let a = all x in (a.0, a.1.1)))
   where
-    one : (b : Body) → ((x : ℕ) → AnswersOf x b) → AnswersIt b
-    one (body.Ok l y o a) its = its y refl
+    one : (b : Body) → ((x : ℕ) → (posts : List Post) × AnswersOf x posts b) → AnswersIt b
+    one (body.Ok l y o a) its = let w = its y in let q = w.1 refl in let g = q.1 in (g.0, g.1, q.2 ∙ ap answer_text g.2)
     one b its = tt
 
 pub runs_answer : RunsAnswerOperations
 runs_answer hd r form = each_object (let w = world_by hd r in w.lines)
-    (λ x. let h = run_with hd (All hd x) (all_keep hd x form.header) r in h.now.holds.1)
+    (λ x. let h = run_with hd (All hd x) (all_keep hd x form.header) r in ((let n = h.now in n.sent), h.now.holds.1))

@@ -48,7 +48,7 @@ stands hd r = moves_stand hd (λ M. ⊤) (InEvent hd) (none_beside hd) r.moves (
 pub events_begin : EventsBegin
 events_begin hd r e over =
     let o = opened_so hd (λ M. ⊤) (InEvent hd) (none_beside hd) (past_of hd r) (world_by hd r) (stands hd r) e over in
-    record { sent = o.sent; stands = o.stands; number = o.number; wrote = o.wrote; holds = o.holds.0 }
+    record { sent = o.sent; stands = o.stands; number = o.number; wrote = o.wrote; holds = o.holds.0.0 }
 
 pub events_keep : EventsKeep
 events_keep hd r = tables_step hd (let w = world_by hd r in w.lines) (let w = world_by hd r in w.event + 1)

@@ -19,7 +19,7 @@ never holds fails = let no_way : true ≡ false = sym holds ∙ fails in absurd 
 none_is : {A P : Type 0} {x : A} → None ≡ Some x → P
 none_is {A} {P} {x} is = let no_way : ◌≡◌ {A = Option A} None (Some x) = is in absurd (cc no_way)
 
-some_is : {A : Type 0} {a b : A} → Some a ≡ Some b → a ≡ b
+pub some_is : {A : Type 0} {a b : A} → Some a ≡ Some b → a ≡ b
 some_is {A} {a} {b} is = let k : ◌≡◌ {A = Option A} (Some a) (Some b) = is in cc
 
 -- ---- labels
@@ -90,7 +90,7 @@ path_stays xs (line ∷ ls) distinct l a named =
 -- ---- tops
 
 -- the top's Uid is the last one of the leading part
-uid_of_top : (p : List Act) (t : Act) → top_in p ≡ Some t → t.uid ≡ last_uid (top_uids p)
+pub uid_of_top : (p : List Act) (t : Act) → top_in p ≡ Some t → t.uid ≡ last_uid (top_uids p)
 uid_of_top [] t is = none_is is
 uid_of_top (a ∷ []) t is = by (is_serial a.kind) is
   where

@@ -43,7 +43,7 @@ use Rattle.arj_law_cause.proofs.rows.Paths.{one_top, top_is}
 use Rattle.arj_law_cause.proofs.rows.Spans.{answered_at, in_range, or_first, or_last, rows_so, sent_to, shown_from}
 use Rattle.arj_law_cause.proofs.rows.Taking.{AskedPaths, IsCaller, IsTaken, bind_is}
 use Rattle.arj_law_cause.specs.rows.Lines.{came_from_store, was_called}
-use Rattle.arj_law_cause.specs.rows.Says.{entry_modes, has_upper, says_of}
+use Rattle.arj_law_cause.specs.rows.Says.{entry_modes, has_upper, may_be_pending, says_of}
 
 -- ---- requests
 
@@ -63,13 +63,23 @@ invoke_is (ask.Vote j ties ends) x b i o is = absurd (cc is)
 invoke_is (ask.Prepare states) x b i o is = absurd (cc is)
 invoke_is (ask.Confirm grants excluded included) x b i o is = absurd (cc is)
 
+load_is : (a : Ask) (x : ℕ) → bare a ≡ ask.Load x → a ≡ ask.Load x
+load_is (ask.Load y) x is = is
+load_is (ask.Invoke y c j ends p) x is = absurd (cc is)
+load_is (ask.Bind y include avoid) x is = absurd (cc is)
+load_is (ask.Activate c st) x is = absurd (cc is)
+load_is (ask.Record y c j g) x is = absurd (cc is)
+load_is (ask.Vote j ties ends) x is = absurd (cc is)
+load_is (ask.Prepare states) x is = absurd (cc is)
+load_is (ask.Confirm grants excluded included) x is = absurd (cc is)
+
 -- ---- what was asked, in the journal's words
 
-used_is : (e : Event) (l : Label) (x : ℕ) (g : Goal) → e ≡ asks_goal l x g → object_used e ≡ Some x
+pub used_is : (e : Event) (l : Label) (x : ℕ) (g : Goal) → e ≡ asks_goal l x g → object_used e ≡ Some x
 used_is e l x (Run o) is = ap object_used is
 used_is e l x (Include n) is = ap object_used is
 
-label_is : (e : Event) (l : Label) (x : ℕ) (g : Goal) → e ≡ asks_goal l x g → label_of e ≡ name l
+pub label_is : (e : Event) (l : Label) (x : ℕ) (g : Goal) → e ≡ asks_goal l x g → label_of e ≡ name l
 label_is e l x (Run o) is = ap label_of is
 label_is e l x (Include n) is = ap label_of is
 
@@ -423,24 +433,31 @@ module _ (hd : Header) (k : ℕ) (M : Moment) (h : Here) (header : h.header ≡ 
 
     -- a store's conflict
     store_so : (x : Known) (n : ℕ) (rest : List ℕ) (v : Uid) (m : Mode) → s.at ≡ AtLoad x n rest → r ≡ Reply.Loaded (loaded.InDoubt v) →
-        m ≡ mode.Write → came_from_store h (name w.label) m from ≡ true
+        m ≡ mode.Write → came_from_store h (name w.label) v m from ≡ true
     store_so x n rest v m at is write = λ i. same_mode (write i) mode.Write
-        && row_so (λ y z. answered h z.at y.uid.node from (frame.Loaded ∷ []) (λ before. true))
-        (found_at frame.Loaded (ap (λ z. frame_kind (response a z)) is) refl (λ before. true) refl) i
+        && row_so (λ y z. answered h z.at y.uid.node from (frame.Loaded ∷ []) (λ before. may_be_pending from v before))
+        (found_at frame.Loaded (ap (λ z. frame_kind (response a z)) is) refl (λ before. may_be_pending from v before) so) i
+      where
+        request : T.ask ≡ ask.Load s.x
+        request = load_is T.ask s.x (T.same ∙ (λ j. ask_at s.x s.goal [] (at j)))
+
+        so : may_be_pending from v T.before ≡ true
+        so = subst (λ z. says_of from (head_of s) z (Reply.Loaded (loaded.InDoubt v)) T.before) request
+            (subst (λ z. says_of from (head_of s) T.ask z T.before) is T.so)
 
     -- any conflict's line
     pub conflict_so : (v : Uid) (m : Mode) (n : ℕ) → IsConflict s.at r v m n →
-        (conflict_caused h (name w.label) v m n || came_from_store h (name w.label) m n) ≡ true
+        (conflict_caused h (name w.label) v m n || came_from_store h (name w.label) v m n) ≡ true
     conflict_so v m n (ByNaming avoid at is one) =
         let its : n ≡ from = one ∙ ap (λ z. node_at z) (sym at) ∙ T.node in
-        λ i. (ap (conflict_caused h (name w.label) v m) its ∙ naming_so avoid v m at is) i || came_from_store h (name w.label) m n
+        λ i. (ap (conflict_caused h (name w.label) v m) its ∙ naming_so avoid v m at is) i || came_from_store h (name w.label) v m n
     conflict_so v m n (ByServer x i at is one) =
         let its : n ≡ from = one ∙ ap (λ z. node_at z) (sym at) ∙ T.node in
-        λ j. (ap (conflict_caused h (name w.label) v m) its ∙ server_so x i v m at is) j || came_from_store h (name w.label) m n
+        λ j. (ap (conflict_caused h (name w.label) v m) its ∙ server_so x i v m at is) j || came_from_store h (name w.label) v m n
     conflict_so v m n (ByStore x y rest at is write one) =
         let its : n ≡ from = one ∙ ap (λ z. node_at z) (sym at) ∙ T.node in
-        by (conflict_caused h (name w.label) v m n) (ap (came_from_store h (name w.label) m) its ∙ store_so x y rest v m at is write)
+        by (conflict_caused h (name w.label) v m n) (ap (came_from_store h (name w.label) v m) its ∙ store_so x y rest v m at is write)
       where
-        by : (b : Bool) → came_from_store h (name w.label) m n ≡ true → (b || came_from_store h (name w.label) m n) ≡ true
+        by : (b : Bool) → came_from_store h (name w.label) v m n ≡ true → (b || came_from_store h (name w.label) v m n) ≡ true
         by true it = refl
         by false it = it

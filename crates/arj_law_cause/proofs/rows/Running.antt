@@ -26,8 +26,11 @@ use Rattle.arj_law_parts.specs.steps.Writes as writes
 use Rattle.arj_law_serial.proofs.holding.{Events.IsShown, Events.event_shown, Events.first_is_shown, Events.first_showing}
 use Rattle.arj_law_serial.proofs.holding.{Events.later_off, Running.Known as KnownOf, Running.Showing, Running.showing_kept}
 use Rattle.arj_model.specs.Past.{Past}
+use Rattle.arj_law_cause.proofs.kinds.Nodes.{wide_all}
 use Rattle.arj_law_cause.proofs.rows.{Inside.inside_step, Telling.served_says, Telling.silent_front, Telling.table_then}
-use Rattle.arj_law_cause.specs.rows.{Runs.RunsMeetRows, Says.says_so, Tables.Inside, Tables.Tables}
+use Rattle.arj_law_cause.proofs.rows.Pending.{StoresPend, pending_keep}
+use Rattle.arj_law_promise.proofs.settling.{Stills.IsRight}
+use Rattle.arj_law_cause.specs.rows.{Runs.RunsMeetRows, Says.may_be_pending, Says.says_so, Tables.Inside, Tables.Tables}
 
 -- ---- two relations
 
@@ -59,17 +62,21 @@ steps_both hd P Q p q = record {
 
 -- ---- what is known between events
 
+-- outcomes, and what stores have prepared
+abbrev pub Right : Seen → Type 0
+Right S = IsRight S × StoresPend S
+
 abbrev pub Base : Seen → Type 0
 Base S = (begun : List Action) × KnownOf begun S
 
 abbrev pub Core : Moment → Type 0
-Core M = (Wide Known M × Wide Base M) × AnswersAreMade says_so M
+Core M = ((Wide Known M × Wide Base M) × Wide Right M) × AnswersAreMade says_so M
 
 -- ---- inside of an event
 
 -- tables show locks, and answers say what is so
 abbrev pub InEvent : Header → List Line → ℕ → Moment → Type 0
-InEvent hd before event M = Tables hd before event M × AnswersAreMade says_so M
+InEvent hd before event M = (Tables hd before event M × Wide Right M) × AnswersAreMade says_so M
 
 module _ (hd : Header) (before : List Line) (event : ℕ) (early : (j : ℕ) → (event == up_of j before) ≡ false) where
   pub tables_step : KeepsSteps hd (Tables hd before event)
@@ -77,20 +84,27 @@ module _ (hd : Header) (before : List Line) (event : ℕ) (early : (j : ℕ) →
       (steps_both hd (Wide Known) (Wide (Showing hd (length before) event)) (let k = known_wide hd in k.steps)
       (wide_steps hd ⊤ (Showing hd (length before) event) (showing_kept hd (length before) event ⊤ tt))) (inside_step before event hd)
 
-  tells : Tells (Tables hd before event) says_so
-  tells k d t v from m h a r front M known there other meant asking new is =
+  tells : Tells (λ M. Tables hd before event M × Wide Right M) says_so
+  tells k d t v from m h a r front M both there other meant asking new is =
+      let known = both.0 in
       let s = known.0.1 in
       let n : Node = record { number = k; disk = d; live = Some t } in
       let past = s.2.1.1.0.0 in
       let q = past.nodes k n (λ i. if same_number k i then Some (record { number = k; disk = d; live = Some t }) else M.seen.nodes k) in
       let l = q.live t refl in
+      let served = sym (ap (handle_ask k d t from m) asking) ∙ is in
+      let silent = silent_front k d t v from h a r front served in
       let shown = table_then hd before event early k d t v from m front (response (asked_by h) r) M s.0 s.1 s.2 known.1 other there meant is
-      (silent_front k d t v from h a r front (sym (ap (handle_ask k d t from m) asking) ∙ is)) in
+      silent in
       served_says hd before event early k d t v from h r front (lines_behind M.past.number front M.seen.lines) shown.0 shown.1
-      l.place a new (sym (ap (handle_ask k d t from m) asking) ∙ is)
+      l.place (λ u none held. subst (λ es. may_be_pending k u (lines_behind M.past.number es M.seen.lines) ≡ true) (sym none)
+      (both.1.2.1 k n u (λ i. if same_number k i then Some (record { number = k; disk = d; live = Some t }) else M.seen.nodes k) held))
+      a new served
 
   pub event_step : KeepsSteps hd (InEvent hd before event)
-  event_step = answers_step hd says_so (Tables hd before event) tables_step (λ M h. h.0.0) tells
+  event_step = answers_step hd says_so (λ M. Tables hd before event M × Wide Right M)
+      (steps_both hd (Tables hd before event) (Wide Right) tables_step (let k = wide_all hd Right (pending_keep hd) in k.steps))
+      (λ M h. h.0.0.0) tells
 
 -- ---- events
 
@@ -174,14 +188,17 @@ module _ (hd : Header) (P : Moment → Type 0) (I : List Line → ℕ → Moment
           holds = beside.enters w.lines (w.event + 1) (look (come e g) o.sent (counted w)) refl (let q = h.holds in q.lines over) refl (
             (
               (
-                o.holds.0.0.0,
-                (let b = o.holds.0.0.1 in (
-                  b.0,
-                  b.1,
-                  shows (seen.with_sent b.0 (let L = look (come e g) o.sent (counted w) in L.seen)) refl refl b.2,
-                )),
+                (
+                  o.holds.0.0.0.0,
+                  (let b = o.holds.0.0.0.1 in (
+                    b.0,
+                    b.1,
+                    shows (seen.with_sent b.0 (let L = look (come e g) o.sent (counted w) in L.seen)) refl refl b.2,
+                  )),
+                ),
+                record { number = refl; wrote = []; lines = sym (append-nil w.lines); starts = λ is j. refl },
               ),
-              record { number = refl; wrote = []; lines = sym (append-nil w.lines); starts = λ is j. refl },
+              o.holds.0.0.1,
             ),
             o.holds.0.1,
           ) o.holds.1;
@@ -191,7 +208,7 @@ module _ (hd : Header) (P : Moment → Type 0) (I : List Line → ℕ → Moment
     closed_so : Closes (I w.lines (w.event + 1)) Rest
     closed_so bodies M number lines c =
         let k = beside.knows w.lines (w.event + 1) M c in (
-          ((k.0.0.0, (let s = k.0.0.1 in (s.0, s.1, (s.2.0, s.2.1)))), made_closes says_so bodies M number lines k.1),
+          (((k.0.0.0.0, (let s = k.0.0.0.1 in (s.0, s.1, (s.2.0, s.2.1)))), k.0.1), made_closes says_so bodies M number lines k.1),
           beside.leaves w.lines (w.event + 1) bodies M number lines c,
         )
 
@@ -216,10 +233,14 @@ module _ (hd : Header) (P : Moment → Type 0) (I : List Line → ℕ → Moment
             holds = (
               (
                 (
-                  (let k = known_wide hd in (let q = k.steps in q.quiet (body.Limit which.Labels ∷ []) M refl c.0.0)),
-                  (let b = c.0.1 in
-                      let r = (let k = showing_kept hd (length w.lines) (w.event + 1) ⊤ tt in k.quiet w.event (body.Limit which.Labels ∷ [])
-                      (seen.with_sent b.0 M.seen) refl (shows (seen.with_sent b.0 M.seen) refl refl b.2)) in (b.0, b.1, (r.0, r.1))),
+                  (
+                    (let k = known_wide hd in (let q = k.steps in q.quiet (body.Limit which.Labels ∷ []) M refl c.0.0.0)),
+                    (let b = c.0.0.1 in
+                        let r = (let k = showing_kept hd (length w.lines) (w.event + 1) ⊤ tt in k.quiet w.event
+                        (body.Limit which.Labels ∷ [])
+                        (seen.with_sent b.0 M.seen) refl (shows (seen.with_sent b.0 M.seen) refl refl b.2)) in (b.0, b.1, (r.0, r.1))),
+                  ),
+                  (let k = wide_all hd Right (pending_keep hd) in (let q = k.steps in q.quiet (body.Limit which.Labels ∷ []) M refl c.0.1)),
                 ),
                 made_later says_so M (said (body.Limit which.Labels ∷ []) M) (record {
                   more = numbered M.past.number (body.Limit which.Labels ∷ []);
@@ -312,8 +333,11 @@ module _ (hd : Header) (P : Moment → Type 0) (I : List Line → ℕ → Moment
         holds = (
           (
             (
-              ([], (λ p i. i), (let k = known_wide hd in k.first st formed)),
-              ([], (λ p i. i), (let s = first_showing hd 0 st formed in (s.0, s.1))),
+              (
+                ([], (λ p i. i), (let k = known_wide hd in k.first st formed)),
+                ([], (λ p i. i), (let s = first_showing hd 0 st formed in (s.0, s.1))),
+              ),
+              (let k = wide_all hd Right (pending_keep hd) in k.first st formed),
             ),
             first_made hd says_so st formed,
           ),

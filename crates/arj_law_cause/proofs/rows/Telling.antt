@@ -9,10 +9,14 @@ use Words.{Body, Head, Header, Line, Message, Mode, Uid, Op, Binding, End}
 use Words.{Reply, answers, asked_by, response, Disk, Do, Effect, Say, Send, worked, Naming, Handled, Parts, Took, Void, handle, serve}
 use Words.{served, sends_answer, if_naming, Contains, In, Row, actor, at_number, in_find, in_to, is_against, last_uid, Copy, rows_in_copy}
 use Words.{rows_in_named, Named, Node}
+use Words.{at_uid, cond, find, holder_of, held_at, is_eq, is_prepared, load_by, load_held, names_object, uid_order, inl, inr, Look}
+use Words.{ObjectState, Pair}
+use Rattle.arj_law_parts.proofs.parts.Keys.{order_itself}
 use Words.{with_naming, with_server, numbered, Post, Seen, InvokedReply, BoundReply, server_rows, is_meant}
 use Words.ask
 use Words.bound
 use Words.invoked
+use Words.loaded
 use Words.mode
 use Words.naming
 use Words.server
@@ -37,7 +41,7 @@ use Rattle.arj_protocol.specs.Laws.{naming_rows}
 use Rattle.arj_law_cause.proofs.rows.Inside.{handle_starts}
 use Rattle.arj_law_cause.proofs.rows.Holders.{begun_act, entry_upper, upper_act}
 use Rattle.arj_law_cause.proofs.rows.Meeting.{Meets, bind_meets, bind_writes, invoke_meets, invoke_runs, lock_by, meets_by}
-use Rattle.arj_law_cause.specs.rows.{Says.has_upper, Says.says_of, Tables.Inside}
+use Rattle.arj_law_cause.specs.rows.{Says.has_upper, Says.says_of, Says.may_be_pending, Tables.Inside}
 use Rattle.arj_law_parts.proofs.parts.LivesNamed.{all_found}
 use Terms.{IsEntryRow}
 use Terms.{HaveUpper}
@@ -143,6 +147,27 @@ met : (path : List Uid) (o : Uid) (asked : Mode) (u : Uid) (held : Mode) (rows :
     In m.row rows
 met path o asked u held rows m = (in_find (is_against path o asked) m.row rows m.found).0
 
+-- whom a store names as in doubt has something prepared there
+holder_prepared : (x u : Uid) (d : Pair) → holder_of x d ≡ Some u → is_prepared u d ≡ true
+holder_prepared x u d is = by (find (λ (p : Uid × List ObjectState). names_object x p.1) d.pend) refl is
+  where
+    at_is : (m : List (Uid × List ObjectState)) (p : Uid × List ObjectState) → In p m → is_some (at_uid p.0 m) ≡ true
+    at_is [] p i = absurd i
+    at_is (q ∷ m) p (inl same) = (λ i. is_some (cond (is_eq ((ap (λ (z : Uid × List ObjectState). uid_order p.0 z.0) same
+        ∙ order_itself p.0) i)) (Some q.1) (at_uid p.0 m)))
+    at_is (q ∷ m) p (inr i) = one (uid_order p.0 q.0) (at_is m p i)
+      where
+        one : (r : Words.Ordering) → is_some (at_uid p.0 m) ≡ true → is_some (cond (is_eq r) (Some q.1) (at_uid p.0 m)) ≡ true
+        one Words.Less ih = ih
+        one Words.Equal ih = refl
+        one Words.Greater ih = ih
+
+    by : (o : Option (Uid × List ObjectState)) → find (λ (p : Uid × List ObjectState). names_object x p.1) d.pend ≡ o →
+        option_map (λ (p : Uid × List ObjectState). p.0) o ≡ Some u → is_prepared u d ≡ true
+    by None none e = absurd (cc e)
+    by (Some p) some e = subst (λ w. is_prepared w d ≡ true) (some_is e)
+        (at_is d.pend p (in_find (λ (q : Uid × List ObjectState). names_object x q.1) p d.pend some).0)
+
 -- ---- tables
 
 -- who has locks has begun by these lines, and on entries is no nested action
@@ -230,7 +255,8 @@ module _ (hd : Header) (before : List Line) (event : ℕ) (early : (j : ℕ) →
   -- ---- a request that is served
 
   module _ (k : ℕ) (d : Disk) (t v : Parts) (from : ℕ) (h : Head) (r : Reply) (front : List Effect) (lines : List Line)
-      (shown : ShowsLocks k lines (Some v)) (holders : AreHolders v lines) (place : is_some t.naming ≡ (k == 1)) where
+      (shown : ShowsLocks k lines (Some v)) (holders : AreHolders v lines) (place : is_some t.naming ≡ (k == 1))
+      (doubts : (u : Uid) → front ≡ [] → is_prepared u d.store ≡ true → may_be_pending k u lines ≡ true) where
     abbrev Sent : Handled → Type 0
     Sent a = a ≡ Took v (front ++ Send from (response (asked_by h) r) ∷ [])
 
@@ -321,10 +347,25 @@ module _ (hd : Header) (before : List Line) (event : ℕ) (early : (j : ℕ) →
         with_it None there e = let no_way : Void [] ≡ Took v (front ++ Send from (response (asked_by h) r) ∷ []) = e in absurd (cc no_way)
         with_it (Some o) there e = named o there e
 
+    loaded_says : (x : ℕ) → Sent (serve k d t from h (ask.Load x)) → says_of k h (ask.Load x) r lines
+    loaded_says x is = by (holder_of (object x) d.store) refl is
+      where
+        held : (o : Option ObjectState) → Sent (load_held from h t o) → says_of k h (ask.Load x) r lines
+        held None e = let no_way : Void (Do Look ∷ []) ≡ Took v (front ++ Send from (response (asked_by h) r) ∷ []) = e in absurd
+            (cc no_way)
+        held (Some s) e = let z = replied t (Do Look ∷ []) (Reply.Loaded (loaded.State s)) e in
+            subst (λ y. says_of k h (ask.Load x) y lines) (sym z.0) tt
+
+        by : (o : Option Uid) → holder_of (object x) d.store ≡ o → Sent (load_by x d.store from h t o) → says_of k h (ask.Load x) r lines
+        by None at e = held (held_at (object x) d.store) e
+        by (Some u) at e = let z = replied t [] (Reply.Loaded (loaded.InDoubt u)) e in
+            subst (λ y. says_of k h (ask.Load x) y lines) (sym z.0) (doubts u (sym (init_is front (Send from (response (asked_by h) r)))
+            ∙ ap init_of (sym (ap outs_in e))) (holder_prepared (object x) u d.store at))
+
     pub served_says : (a : Ask) → is_again h a t.server ≡ false → Sent (serve k d t from h a) → says_of k h a r lines
     served_says (ask.Invoke x b i ends o) new is = invoked_says x b i ends o new is
     served_says (ask.Bind x include avoid) new is = bound_says x include avoid is
-    served_says (ask.Load x) new is = tt
+    served_says (ask.Load x) new is = loaded_says x is
     served_says (ask.Activate b st) new is = tt
     served_says (ask.Record x b i g) new is = tt
     served_says (ask.Vote i ties ends) new is = tt

@@ -109,7 +109,7 @@ module _ (hd : Header) (form : HeaderInForm hd) (st : Start) where
   works before event k d t M h = record {
     paths = paths_of_wide (up k d t M) h.1.0.0;
     tied = h.1.1;
-    known = h.0.0.0.0;
+    known = h.0.0.0.0.0;
     all = h.1.0.1.0;
     addressed = h.1.0.1.1.0;
     made = h.0.1;

@@ -4,34 +4,44 @@ use Words.{◌≡◌, ◌≤◌, ◌∙◌, arith, ℕ, List, length, Option, So
 use Words.{Binding, BoundReply}
 use Words.{ConfirmedReply, End, Head, Header, LoadedReply, Message, Op, PreparedReply, ObjectState, Uid, VotedReply, asks, Reply, answers}
 use Words.{Node, Post}
-use Words.{Seen, World, see, world_by, is_some}
+use Words.{Seen, World, see, world_by, is_some, IsInForm, journal_by, Answer, InvokedReply}
 use Words.ask
 use Words.bound
 use Words.confirmed
+use Words.invoked
 use Words.loaded
 use Words.message
 use Words.prepared
 use Words.voted
 use Rattle.arj_law_promise.proofs.Terms
-use Terms.{HasObject, HeaderInForm, Holds, In, IsGood, KeepsAsked, all_each, moves_asked}
+use Terms.{HasObject, HeaderInForm, Holds, In, IsGood, KeepsAsked, Own, all_each, asked_both, keeps_asked, moves_asked}
+use Rattle.arj_class.specs.declared.op.Answer.TheVariants as answer
 use Rattle.arj_law_disk_view.specs.running.States.{ReplyIsSo}
 use Rattle.arj_law_parts.specs.parts.Incs.{SaysInc}
 use Rattle.arj_law_promise.proofs.meant.Posts.{RequestsAre}
 use Rattle.arj_law_promise.specs.meant.Meant.{AskFits}
+use Rattle.arj_law_promise.proofs.rooms.Actions.{runs_say_actions}
 use Rattle.arj_law_runs.proofs.coordinators.RunCoords.{few_ends}
+use Rattle.arj_law_runs.proofs.journal.Paths.{IsNamed, paths_keep}
+use Rattle.arj_law_runs.specs.journal.{Paths.IsAlike}
+use Rattle.arj_promise.specs.Runs.{Run as RunOf}
 use Rattle.arj_law_runs.specs.addresses.Addresses.{AnsweredOf, AreOf, AreSo, BoundOf, PostOf, IsNode as IsOfHeader}
+use Rattle.arj_law_serial.proofs.joint.Starting.{start_stays}
 use Rattle.arj_law_cause.proofs.spelled.Commits.{node_number, object_number, room}
 use Rattle.arj_law_cause.proofs.spelled.Names.{NamesSo, few_stores, names_keep}
 use Rattle.arj_law_cause.proofs.spelled.Replies.{Asks, ListsFew, RepliesFit, ReplyFits, replies_keep}
 use Rattle.arj_law_cause.proofs.spelled.Requests.{AreShort, Known, requests_keep}
 use Rattle.arj_law_cause.proofs.spelled.Operations.{ops_in_form}
-use Rattle.arj_law_cause.proofs.spelled.Saves.{AreOpsIn, F, MessageSaves}
-use Rattle.arj_law_cause.proofs.spelled.Saving.{SavesWhere, saves_keep}
+use Rattle.arj_law_cause.proofs.spelled.Askers.{lines_have_uids}
+use Rattle.arj_law_cause.proofs.spelled.Saves.{F, MessageSaves, Saved}
+use Rattle.arj_law_cause.proofs.spelled.Saving.{IsReady, OlderRestore, SavesWhere, older_restore, saves_keep}
+use Rattle.arj_law_cause.proofs.spelled.Servers.{AnswerSays, InvokedSays}
 use Rattle.arj_law_cause.proofs.spelled.Tolds.{ToldFew, ToldsFew, tolds_keep}
 use Rattle.arj_law_cause.proofs.spelled.Votes.{IsVotedFew, VotesAreFew, votes_keep}
 use Rattle.arj_law_cause.specs.spelled.Spelled.{AreSendable, AreSpelled, IsLeft, RunsInFormSpell, RunsSpell, VoteRestores}
 use Rattle.arj_msg.specs.InForm.{AreFew, IsNode, IsObject}
-use Rattle.arj_msg.specs.Sendable.{BoundSends, ConfirmedSends, IsSendable, LoadedSends, PreparedSends, VotedSends}
+use Rattle.arj_msg.specs.Sendable.{AnswerSends, BoundSends, ConfirmedSends, InvokedSends, IsSendable, LoadedSends, PreparedSends, StateSends}
+use Rattle.arj_msg.specs.Sendable.{VotedSends}
 use Rattle.arj_text.proofs.Values.{op_in_form}
 use Rattle.arj_text.specs.Fields.{OpTextInForm}
 
@@ -45,7 +55,7 @@ module _ (hd : Header) (form : HeaderInForm hd) where
   pub fits : (M : Seen) → Short M → (p : Post) (h : Head) (a : Ask) → In p M.sent → asks p.message ≡ Some (h, a) → AskFits hd a
   fits M short = let k = short.0 in let b = k.0 in let w = b.0 in w.1
 
-  addressed : (M : Seen) → Short M → AreSo (IsOfHeader hd) M
+  pub addressed : (M : Seen) → Short M → AreSo (IsOfHeader hd) M
   addressed M short = let k = short.0 in let b = k.0 in let m = b.0 in let z = m.0 in let a = z.0.0.1 in a.1
 
   objects : (xs : List (ℕ × ℕ)) → AllByRecursion (λ (g : ℕ × ℕ). HasObject hd g.0) xs → AllByRecursion (λ (g : ℕ × ℕ). IsObject g.0) xs
@@ -89,8 +99,24 @@ module _ (hd : Header) (form : HeaderInForm hd) where
   counted_keep = votes_keep hd Told told_keep (λ M all. good M (let s = all.0 in let n = s.0 in n.0))
       (λ k d t M all. let s = all.0 in let n = s.0 in let z = n.0 in let b = z.0 in room hd form k d t M b.0)
 
-  keep : KeepsAsked hd (λ M. Counted M × SavesWhere M)
-  keep = saves_keep hd form Counted counted_keep (λ M all. good M (let t = all.0 in let s = t.0 in let n = s.0 in n.0))
+  -- with the actions that were begun
+  abbrev pub Alike : Seen → Type 0
+  Alike M = Counted M × (IsNamed M × IsAlike M)
+
+  alike_keep : KeepsAsked hd Alike
+  alike_keep = asked_both hd Counted (λ M. IsNamed M × IsAlike M) counted_keep (keeps_asked hd (λ M. IsNamed M × IsAlike M) (paths_keep hd))
+
+  pub said_of : (M : Seen) → Alike M → Said M
+  said_of M all = let c = all.0 in let t = c.0 in t.0
+
+  pub good_of : (M : Seen) → Alike M → IsGood M
+  good_of M all = good M (let s = said_of M all in let n = s.0 in n.0)
+
+  abbrev pub Saves : Seen → Type 0
+  Saves M = Alike M × SavesWhere M
+
+  pub saved_keep : KeepsAsked hd Saves
+  saved_keep = saves_keep hd form Alike alike_keep good_of (λ M all. let a = all.1 in a.1)
 
   -- ---- kind by kind
 
@@ -176,32 +202,42 @@ module _ (hd : Header) (form : HeaderInForm hd) where
 
 -- ---- where operations are in form
 
-loaded_left : (r : LoadedReply) → ReplyIsSo F (Reply.Loaded r) → LoadedSends r
-loaded_left (loaded.State st) its = its
-loaded_left (loaded.InDoubt h) its = tt
+module _ (A : Type 0) (sure : A) where
+  loaded_left : (r : LoadedReply) → ReplyIsSo (F A) (Reply.Loaded r) → LoadedSends r
+  loaded_left (loaded.State st) its = (its.0).0 sure
+  loaded_left (loaded.InDoubt h) its = tt
 
-voted_left : (r : VotedReply) → ReplyIsSo F (Reply.Voted r) → VoteRestores r
-voted_left (voted.Yes states) its = its
-voted_left (voted.Changed w) its = tt
+  voted_left : (r : VotedReply) → ReplyIsSo (F A) (Reply.Voted r) → VoteRestores r
+  voted_left (voted.Yes states) its = all_each (Own (Saved A)) StateSends states (λ st so. (so.0).0 sure) its
+  voted_left (voted.Changed w) its = tt
 
-left_of : (m : Message) → MessageSaves m → ((h : Head) (x : ℕ) (b : Binding) (i : ℕ) (ends : List (Uid × End)) (o : Op) →
+  answer_left : (a : Answer) → AnswerSays a → AnswerSends a
+  answer_left (answer.Text bytes) its = its.0
+  answer_left a its = tt
+
+  invoked_left : (r : InvokedReply) → InvokedSays A r → InvokedSends r
+  invoked_left (invoked.Answered a) its = answer_left a (its sure)
+  invoked_left (invoked.Conflict u m) its = tt
+  invoked_left (invoked.Changed w) its = tt
+
+left_of : (A : Type 0) → A → (m : Message) → MessageSaves A m → ((h : Head) (x : ℕ) (b : Binding) (i : ℕ) (ends : List (Uid × End)) (o : Op) →
     asks m ≡ Some (h, ask.Invoke x b i ends o) → OpTextInForm o) → IsLeft m
-left_of (message.Loaded m) s ops = let z = s.0 in loaded_left m.reply z.1
-left_of (message.Activate m) s ops = let z = s.0 in z.0
-left_of (message.Invoke m) s ops = op_in_form m.op (ops m.head m.x m.binding m.server_inc m.ends m.op refl)
-left_of (message.Invoked m) s ops = s.1 m.asked m.reply refl
-left_of (message.Voted m) s ops = let z = s.0 in voted_left m.reply z.1
-left_of (message.Prepare m) s ops = let z = s.0 in z.0
-left_of m s ops = tt
+left_of A sure (message.Loaded m) s ops = let z = s.0 in loaded_left A sure m.reply z.1
+left_of A sure (message.Activate m) s ops = let z = s.0 in let q = z.0 in let f = q.0 in f.0 sure
+left_of A sure (message.Invoke m) s ops = op_in_form m.op (ops m.head m.x m.binding m.server_inc m.ends m.op refl)
+left_of A sure (message.Invoked m) s ops = invoked_left A sure m.reply (s.1 m.asked (Reply.Invoked m.reply) refl)
+left_of A sure (message.Voted m) s ops = let z = s.0 in voted_left A sure m.reply z.1
+left_of A sure (message.Prepare m) s ops = let z = s.0 in all_each (Own (Saved A)) StateSends m.states (λ st its. (its.0).0 sure) z.0
+left_of A sure m s ops = tt
 
 -- ---- in every run
 
-module _ (hd : Header) (form : HeaderInForm hd) (w : World) (h : Holds hd (λ M. Counted hd form M × SavesWhere M) w) where
+module _ (hd : Header) (form : HeaderInForm hd) (w : World) (h : Holds hd (Saves hd form) w) where
   abbrev M : Seen
   M = see h.sent w
 
   counted : Counted hd form M
-  counted = let k = h.holds in k.0
+  counted = let k = h.holds in let a = k.0 in a.0
 
   told : Told hd form M
   told = let k = counted in k.0
@@ -239,21 +275,38 @@ module _ (hd : Header) (form : HeaderInForm hd) (w : World) (h : Holds hd (λ M.
   pub spelled : Holds hd AreSendable w
   spelled = record { sent = h.sent; stands = h.stands; holds = its }
 
-  pub restored : AreOpsIn h.sent → Holds hd AreSpelled w
-  restored ops = record {
+  pub restored : IsReady M → OlderRestore M.start → Holds hd AreSpelled w
+  restored ready older = record {
     sent = h.sent;
     stands = h.stands;
-    holds = λ older p there. let k = h.holds in let all = k.1 (older, ops) in
-        its p there (left_of p.message (all.1 p there) (λ z x b i ends o is. ops p z x b i ends o there is));
+    holds = λ p there. let k = h.holds in let all = k.1 ready in
+        its p there (left_of (OlderRestore M.start) older p.message (all.1 p there)
+        (λ z x b i ends o is. let ops = ready.0 in ops p z x b i ends o there is));
   }
 
 pub runs_spell : RunsSpell
-runs_spell hd form r = spelled hd form (world_by hd r) (moves_asked hd (λ M. Counted hd form M × SavesWhere M) (keep hd form) r)
+runs_spell hd form r = spelled hd form (world_by hd r) (moves_asked hd (Saves hd form) (saved_keep hd form) r)
+
+-- what is sent in a run in form, and what is known then
+pub ready_in_form : (hd : Header) (X : Seen → Type 0) → KeepsAsked hd X → ((M : Seen) → X M → IsGood M) → (r : RunOf hd) → IsInForm hd r →
+    Holds hd (λ M. X M × IsReady M) (world_by hd r)
+ready_in_form hd X keeps good r form =
+    let h = ops_in_form hd X keeps good r form in
+    record {
+      sent = h.sent;
+      stands = h.stands;
+      holds = (
+        (let b = h.holds in b.0),
+        (
+          (λ p z x b i ends o there is. (let k = h.holds in k.1 p z (ask.Invoke x b i ends o) there is)),
+          lines_have_uids (journal_by hd r) (runs_say_actions hd r form (let f = r.formed in f.incs)),
+        ),
+      );
+    }
 
 pub runs_in_form : RunsInFormSpell
 runs_in_form hd r form =
     let header = form.header in
-    let h = ops_in_form hd (λ M. Counted hd header M × SavesWhere M) (keep hd header)
-    (λ M all. good hd header M (let c = all.0 in let t = c.0 in let s = t.0 in let n = s.0 in n.0)) r form in
+    let h = ready_in_form hd (Saves hd header) (saved_keep hd header) (λ M all. good_of hd header M all.0) r form in
     restored hd header (world_by hd r) (record { sent = h.sent; stands = h.stands; holds = (let b = h.holds in b.0) })
-    (λ p z x b i ends o there is. (let k = h.holds in k.1 p z (ask.Invoke x b i ends o) there is))
+    (let k = h.holds in k.1) (subst OlderRestore (sym (start_stays hd r)) (older_restore hd r.start r.formed))

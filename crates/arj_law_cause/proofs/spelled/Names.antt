@@ -1,7 +1,8 @@
--- In every run each entry is of an object, and has each of its stores once, so that there are at most 16 of them.
+-- In every run each entry is of an object, has each of its stores once, so that there are at most 16 of them, its servers in form, and a version
+-- of 64 bits.
 use Rattle.arj_law_parts.proofs.Words
 use Words.{◌≡◌, ◌≤◌, ◌+◌, ◌++◌, ◌==◌, ◌||◌, ◌&&◌, ◌∙◌, nat_le, not, ℕ, Bool, true, false, cond, List, [], ◌∷◌, filter, map, length, Option}
-use Words.{Some, None}
+use Words.{Some, None, ◌<◌, next_version, nat_tests, leb-true, most_labels}
 use Words.{arith, refl, sym, subst, ⊤, option_map, AllByRecursion, list_all, and_parts, cons_option, flat_map, Ask, End, Entry}
 use Words.{Head}
 use Words.{ConfirmedReply, Header, Message, ObjectLine, ObjectState, Path, Uid, entry, object, is_on, Reply, actor, asked_by, last_end}
@@ -46,18 +47,25 @@ use Rattle.arj_law_runs.specs.addresses.Addresses.{AreOf, DiskOf, IsNode, StateO
 use Rattle.arj_law_serial.proofs.Terms.{bind_says, is_distinct, note_says}
 use Rattle.arj_law_serial.proofs.joint.FormPairs.{aborted_so, committed_so, in_part_so, none_so, prepared_so, puts_so}
 use Rattle.arj_law_serial.specs.joint.Forms.{PairIsSo}
-use Rattle.arj_journal.specs.declared.limits.TheConstants.{STORES}
+use Rattle.arj_base.specs.declared.limits.TheConstants.{LAST_VERSION}
+use Rattle.arj_journal.specs.declared.limits.TheConstants.{NODES, SERVERS, STORES}
 use Rattle.arj_law_cause.proofs.spelled.Commits.{node_number}
 use Rattle.arj_law_cause.proofs.spelled.Onces.{Once, distinct_once, few_once, once_with, once_without}
 use Rattle.arj_law_cause.proofs.spelled.Saves.{F, keep}
-use Rattle.arj_msg.specs.InForm.{IsObject}
+use Rattle.arj_msg.specs.InForm.{IsLong, IsObject}
+use Rattle.arj_promise.specs.Starts.{IsFormed}
 use Rattle.arj_protocol.proofs.CoordSays.{acked_own, acts_own, again_own, heard_own, query_own, tolds_again_own}
 use Rattle.arj_protocol.specs.Says.{is_coord_effect, is_intent_work}
 use Rattle.arj_text.specs.Fields.{NodesInForm}
 
+-- an entry's version has 64 bits, and its servers are in form
+pub record IsNumbered (st : ObjectState) : Type 0 where
+  pub version : IsLong st.version
+  pub servers : NodesInForm NODES STORES (let e = state_entry st in e.servers)
+
 -- an entry has each store once, and is of an object
 abbrev pub Apart : Uid → ObjectState → Type 0
-Apart u st = Once (let e = state_entry st in e.stores) × IsObject u.num
+Apart u st = Once (let e = state_entry st in e.stores) × IsObject u.num × IsNumbered st
 
 -- so it is of each entry on the disk
 abbrev pub Names : Disk → Type 0
@@ -120,7 +128,7 @@ none_apart (Abort r u) none = tt
 none_apart (PutIntent u i) none = tt
 none_apart (RemoveIntent u) none = tt
 
-says_apart : (es : List Effect) → AllSay F es → AllApart es
+says_apart : (es : List Effect) → AllSay (F ⊤) es → AllApart es
 says_apart [] all = tt
 says_apart (Send to m ∷ es) all = (tt, says_apart es all.1)
 says_apart (Say b ∷ es) all = (tt, says_apart es all.1)
@@ -182,7 +190,16 @@ entries_apart top (g ∷ gs) excluded included d so = by (held_at (entry g.0) d)
               (once_with (marked g.0 included) (without_stores (marked g.0 excluded) e.stores)
               (once_without (marked g.0 excluded) e.stores its.0)),
           its.1,
+          record {
+            version = least s.version;
+            servers = subst (λ (f : Entry). NodesInForm NODES STORES f.servers)
+                (sym (entry_back (record { servers = (state_entry s).servers; stores = stores_after g.0 excluded included (state_entry s) })))
+                (let n = its.2 in n.servers);
+          },
         )
+      where
+        least : (v : ℕ) → IsLong (next_version v)
+        least v = omega arith
 
     made : (s : ObjectState) (b : Bool) → held_at (entry g.0) d ≡ Some s → Later → AllByRecursion (Own Apart) (cons_option (cond b None
         (Some (entry_state g.0 top s (stores_after g.0 excluded included (state_entry s))))) (entries_after top gs excluded included d))
@@ -383,7 +400,31 @@ walk e k (Send to m ∷ es) v d M all its others = λ more quiet.
 
 -- ---- as a run begins
 
-module _ (hd : Header) (form : HeaderInForm hd) (st : Start) where
+-- nodes of a header are nodes
+pub nodes_within : (n : ℕ) (ns : List ℕ) → n ≤ NODES → list_all (λ m. nat_le 1 m && nat_le m n) ns ≡ true →
+    list_all (λ m. nat_le 1 m && nat_le m NODES) ns ≡ true
+nodes_within n [] few all = refl
+nodes_within n (m ∷ ms) few all =
+    let p = and_parts (nat_le 1 m && nat_le m n) (list_all (λ k. nat_le 1 k && nat_le k n) ms) all in
+    let q = and_parts (nat_le 1 m) (nat_le m n) p.0 in
+    λ i. (q.0 i && more (leb-true m n q.1) i) && nodes_within n ms few p.1 i
+  where
+    more : m ≤ n → nat_le m NODES ≡ true
+    more less = grind (arith, nat_tests, less, few)
+
+list_within : (n most : ℕ) (ns : List ℕ) → n ≤ NODES → most ≤ STORES → NodesInForm n most ns → NodesInForm NODES STORES ns
+list_within n most ns few less is =
+    let many = nat_le 1 (length ns) && nat_le (length ns) most in
+    let each = list_all (λ m. nat_le 1 m && nat_le m n) ns in
+    let p = and_parts many (each && is_distinct ns) is in
+    let q = and_parts each (is_distinct ns) p.1 in
+    let l = and_parts (nat_le 1 (length ns)) (nat_le (length ns) most) p.0 in
+    λ i. (l.0 i && more (length ns) (leb-true (length ns) most l.1) i) && (nodes_within n ns few q.0 i && q.1 i)
+  where
+    more : (k : ℕ) → k ≤ most → nat_le k STORES ≡ true
+    more k low = grind (arith, nat_tests, low, less)
+
+module _ (hd : Header) (form : HeaderInForm hd) (st : Start) (formed : IsFormed hd st) where
   lines_once : (os : List ObjectLine) → AllByRecursion (ObjectLineInForm hd.nodes) os →
       AllByRecursion (Own Apart) (map (λ (o : ObjectLine). entry_by hd.format (let m = st.marks in m.entries o.x) o) os)
   lines_once [] all = tt
@@ -392,10 +433,18 @@ module _ (hd : Header) (form : HeaderInForm hd) (st : Start) where
       subst (λ (f : Entry). Once f.stores) (sym (entry_back (record { servers = o.servers; stores = o.stores })))
           (distinct_once o.stores (once o.stores (let f = all.0 in f.stores))),
       (let f = all.0 in f.number),
+      record {
+        version = room (let m = st.marks.entries o.x in m.version) (formed.brief o.x);
+        servers = subst (λ (f : Entry). NodesInForm NODES STORES f.servers) (sym (entry_back (record { servers = o.servers; stores = o.stores })))
+            (list_within hd.nodes SERVERS o.servers (let n = form.nodes in n.1) (omega arith) (let f = all.0 in f.servers));
+      },
     ),
     lines_once os all.1,
   )
     where
+      room : (v : ℕ) → v + most_labels < LAST_VERSION → IsLong v
+      room v less = omega (arith, less)
+
       once : (ns : List ℕ) → NodesInForm hd.nodes STORES ns → is_distinct ns ≡ true
       once ns so =
           let many = nat_le 1 (length ns) && nat_le (length ns) STORES in
@@ -435,10 +484,10 @@ names_keep hd form R keeps = record {
       (coord_apart q.outs (again_own t.coord.doings t.coord)) (coord_apart (tolds_again t.coord.telling) (tolds_again_own t.coord.telling)))
       (queries_apart (holders d t))) g.1;
   restart = λ e k d M g. let outs = restart_outs hd k (d.inc + 1) d in
-      beside e k outs None (parts_in k (d.inc + 1) d) d M (keeps.restart e k d M g.0) (says_apart outs (ticks.restart_so F keep hd k d))
+      beside e k outs None (parts_in k (d.inc + 1) d) d M (keeps.restart e k d M g.0) (says_apart outs (ticks.restart_so (F ⊤) (keep ⊤) hd k d))
       g.1;
   first = λ st formed.
-      (keeps.first st formed, λ j n is. subst (λ (y : Node). Names y.disk) (first_at hd st j n is) (first_apart hd form st j));
+      (keeps.first st formed, λ j n is. subst (λ (y : Node). Names y.disk) (first_at hd st j n is) (first_apart hd form st formed j));
 }
   where
     beside : (e k : ℕ) (outs : List Effect) (live : Option Parts) (v : Parts) (d : Disk) (M : Seen) → Walks R e k outs (Up R k v) d M →

@@ -218,7 +218,7 @@ less_asked (input.Show x) c M forms = forms
 -- ---- what is kept
 
 module _ (hd : Header) (X : Seen → Type 0) (keeps : KeepsAsked hd X) (good : (M : Seen) → X M → IsGood M) where
-  abbrev P : Moment → Type 0
+  abbrev pub P : Moment → Type 0
   P M = T M × WideBy X M
 
   -- what is at work at the end has goals in form
@@ -324,7 +324,7 @@ event_form e w v g None form all = by (lacks_labels (giving e w) w)
     by true = all
     by false = asked (asks_of e w)
 
-moves_form : (ms : List Move) (w : World) (g : History) → AreMovesInForm ms → AsksForm g → AsksForm (past_moves ms w g)
+pub moves_form : (ms : List Move) (w : World) (g : History) → AreMovesInForm ms → AsksForm g → AsksForm (past_moves ms w g)
 moves_form [] w g forms all = all
 moves_form (m ∷ ms) w g forms all =
     moves_form ms (moved m w) (past_event m.asked (record w { arms = m.falls }) g) forms.1

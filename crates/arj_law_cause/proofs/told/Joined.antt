@@ -54,7 +54,7 @@ module _ (hd : Header) (form : HeaderInForm hd) where
   abbrev Together : Past → World → Type 0
   Together p w = Writes p w × Waits p w
 
-  abbrev Inv : Past → World → Type 0
+  abbrev pub Inv : Past → World → Type 0
   Inv p w = Together p w × dooms.Inv hd form p w
 
   abbrev WritesStep : Past → Event → List Body → Type 0
@@ -73,10 +73,10 @@ module _ (hd : Header) (form : HeaderInForm hd) where
   AllStep p e bodies = TogetherStep p e bodies × DoomsStep hd p e bodies
 
   -- a run that goes on, and what was written
-  abbrev Said : Past → Event → List Body → Type 0
+  abbrev pub Said : Past → Event → List Body → Type 0
   Said p e bodies = (is_limited p.lines ≡ false) × AllStep p e bodies
 
-  written_lines : (p : Past) (w : World) → lines.Turned hd form p w → p.lines ≡ w.lines
+  pub written_lines : (p : Past) (w : World) → lines.Turned hd form p w → p.lines ≡ w.lines
   written_lines p w x = (let s : shorts.Stands hd form p w = x.base in s.base.base.lines)
 
   refused_lines : (p : Past) (w : World) → refusals.Inv hd form p w → p.lines ≡ w.lines
@@ -115,7 +115,7 @@ module _ (hd : Header) (form : HeaderInForm hd) where
   all_go m p w stops s on = both_go TogetherStep (DoomsStep hd) Together (dooms.Inv hd form) (λ q v z. written_lines q v z.0.0) doomed_lines
       m p w (together_go m p w stops s.0 on) (dooms.goes hd form m p w stops s.1 on)
 
-  goes : (m : Move) (p : Past) (w : World) → IsStoppedInForm m → Inv p w → w.over ≡ false → Outcome Said Inv m p w
+  pub goes : (m : Move) (p : Past) (w : World) → IsStoppedInForm m → Inv p w → w.over ≡ false → Outcome Said Inv m p w
   goes m p w stops s on = by (all_go m p w stops s on)
     where
       going : is_limited p.lines ≡ false
@@ -125,7 +125,7 @@ module _ (hd : Header) (form : HeaderInForm hd) where
       by (Ended over event lines) = Ended over event lines
       by (Went bodies step after) = Went bodies (going, step) after
 
-  first_stands : (st : Start) → IsFormed hd st → Inv (at_start st) (world_from hd st)
+  pub first_stands : (st : Start) → IsFormed hd st → Inv (at_start st) (world_from hd st)
   first_stands st formed = (
     (
       (lines.first_turned hd form st formed, refusals.first_stands hd form st formed),
@@ -148,7 +148,7 @@ module _ (hd : Header) (form : HeaderInForm hd) where
     (no_history st, dooms.first_stands hd form st formed),
   )
 
-  count_is : (p : Past) (w : World) → Inv p w → p.count ≡ w.event
+  pub count_is : (p : Past) (w : World) → Inv p w → p.count ≡ w.event
   count_is p w s = let x = s.0.0.0 in (let b : shorts.Stands hd form p w = x.base in b.base.base.count)
 
 all_said : (hd : Header) (r : Run hd) (form : IsInForm hd r) → Runs (Said hd form.header) r.start (run_events hd r) (journal_by hd r)

@@ -1,12 +1,17 @@
 -- Which lines each row of causes is of.
-use Rattle.std.specs.Prelude.{Bool, true, false, not}
+use Rattle.std.specs.Prelude.{Bool, true, false, not, ◌&&◌}
 use Rattle.arj_journal.specs.declared.body.Body.{Body}
 use Rattle.arj_journal.specs.declared.body.Body.TheVariants as body
 use Rattle.arj_journal.specs.declared.body.Part.TheVariants as part
 use Rattle.arj_journal.specs.declared.body.Cause.TheVariants as cause
+use Rattle.arj_journal.specs.declared.body.Role.TheVariants as role
 use Rattle.arj_base.specs.declared.mode.End.TheVariants as ending
-use Rattle.arj_model.specs.CauseSpans.{Here}
+use Rattle.arj_base.specs.Rows.{last_uid}
+use Rattle.arj_base.specs.Uid.{nobody, uid_eq}
+use Rattle.arj_model.specs.Actions.{acts, path}
+use Rattle.arj_model.specs.CauseSpans.{Here, top_uids}
 use Rattle.arj_model.specs.Table.{is_entry}
+use Rattle.arj_text.specs.Label.{name}
 use Rattle.arj_law_runs.specs.follow.Refusals.{is_plain_cause}
 
 -- a frame was sent
@@ -83,6 +88,21 @@ is_opening (body.Ended l) = true
 is_opening (body.Aborted l cause.Asked) = true
 is_opening _ = false
 
+-- an action committed
+abbrev pub is_committed : Body → Bool
+is_committed (body.Committed l) = true
+is_committed _ = false
+
+-- something was prepared, at a store or at naming
+abbrev pub is_prepared : Body → Bool
+is_prepared (body.Prepared n u r) = true
+is_prepared _ = false
+
+-- at naming
+abbrev pub is_entry_prepared : Body → Bool
+is_entry_prepared (body.Prepared n u role.Names) = true
+is_entry_prepared _ = false
+
 -- an abort was done, at a store or at naming
 abbrev pub is_abort_done : Body → Bool
 is_abort_done (body.Done n u r ending.Abort) = true
@@ -103,6 +123,21 @@ abbrev pub is_granted_object : Body → Bool
 is_granted_object (body.Granted n u o m) = not (is_entry o)
 is_granted_object _ = false
 
+-- a lock was lowered
+abbrev pub is_lock_lowered : Body → Bool
+is_lock_lowered (body.Lowered n u o) = true
+is_lock_lowered _ = false
+
+-- a copy became active at a node
+abbrev pub is_active : Body → Bool
+is_active (body.Active n x b) = true
+is_active _ = false
+
+-- naming bound an object to a server
+abbrev pub is_bound : Body → Bool
+is_bound (body.Bound x b s) = true
+is_bound _ = false
+
 -- the line shows an object's entry
 abbrev pub is_entry_shown : Body → Bool
 is_entry_shown (body.Entry x v servers stores) = true
@@ -112,3 +147,29 @@ is_entry_shown _ = false
 abbrev pub is_copy_shown : Body → Bool
 is_copy_shown (body.Copy n x v u payload) = true
 is_copy_shown _ = false
+
+-- a commit was lost: the action was aborted as a node didn't answer
+abbrev pub is_lost_commit : Body → Bool
+is_lost_commit (body.Aborted l (cause.Lost n)) = true
+is_lost_commit _ = false
+
+-- a lock on an entry was granted
+abbrev pub is_granted_entry : Body → Bool
+is_granted_entry (body.Granted n u o m) = is_entry o
+is_granted_entry _ = false
+
+-- naming refused a commit for a store that it includes, and that was listed
+abbrev pub is_listed_abort : Body → Bool
+is_listed_abort (body.Aborted l (cause.Listed x s)) = true
+is_listed_abort _ = false
+
+-- it refused one that would have left no store
+abbrev pub is_bare_abort : Body → Bool
+is_bare_abort (body.Aborted l (cause.NoStores x)) = true
+is_bare_abort _ = false
+
+-- it refused one for a row that the top met, and that is of another action
+abbrev pub is_met_abort : Here → Body → Bool
+is_met_abort h (body.Aborted l (cause.Conflict u m n)) =
+    not (uid_eq u nobody) && not (uid_eq u (last_uid (top_uids (path (acts h.lines) (name l)))))
+is_met_abort h _ = false

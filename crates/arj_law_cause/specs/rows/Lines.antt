@@ -1,6 +1,7 @@
 -- The lines that answer calls, against the causes that the journal has for them.
-use Rattle.std.specs.Prelude.{◌≡◌, ℕ, List, [], ◌∷◌, Bool, true, ◌==◌, ◌&&◌, ◌||◌}
+use Rattle.std.specs.Prelude.{◌≡◌, ℕ, List, [], ◌∷◌, Bool, true, ◌&&◌, ◌||◌}
 use Rattle.arj_base.specs.declared.mode.Mode.{Mode}
+use Rattle.arj_base.specs.declared.uid.Uid.{Uid}
 use Rattle.arj_base.specs.declared.mode.Mode.TheVariants.{Write}
 use Rattle.arj_journal.specs.declared.body.Body.{Body}
 use Rattle.arj_journal.specs.declared.body.Body.TheVariants as body
@@ -14,12 +15,13 @@ use Rattle.arj_model.specs.CauseSpans.{Here, answered, asks_so, here_at, is_call
 use Rattle.arj_model.specs.Caused.{has_cause}
 use Rattle.arj_model.specs.Follows.{Runs}
 use Rattle.arj_law_runs.specs.follow.Frames.{are_so, run_events}
+use Rattle.arj_law_cause.specs.rows.Says.{may_be_pending}
 use Rattle.arj_promise.specs.Runs.{IsInForm, Run, journal_by}
 
--- a store answered what was asked with a conflict, over a write
-abbrev pub came_from_store : Here → List ℕ → Mode → ℕ → Bool
-came_from_store h l held n =
-    same_mode held Write && asks_so h l (λ a k. answered h k.at a.uid.node n (frame.Loaded ∷ []) (λ before. true))
+-- a store answered what was asked with a conflict, over a write, with an action of which a state may have been prepared there then
+abbrev pub came_from_store : Here → List ℕ → Uid → Mode → ℕ → Bool
+came_from_store h l u held n = same_mode held Write
+    && asks_so h l (λ a k. answered h k.at a.uid.node n (frame.Loaded ∷ []) (λ before. may_be_pending n u before))
 
 -- a call was asked, and what changed was found at the action's node, or by naming there, or in an answer to it
 abbrev pub was_called : Here → List ℕ → ℕ → Bool
@@ -29,7 +31,7 @@ was_called h l n = asks_so h l (λ a k. is_call k.event && was_told h n a k)
 -- a store said it. One that says what changed has this much of its cause.
 abbrev pub answer_fits : Here → Body → Bool
 answer_fits h (body.Ok l x op answer) = has_cause h (body.Ok l x op answer)
-answer_fits h (body.Conflict l u held n) = has_cause h (body.Conflict l u held n) || came_from_store h (name l) held n
+answer_fits h (body.Conflict l u held n) = has_cause h (body.Conflict l u held n) || came_from_store h (name l) u held n
 answer_fits h (body.Lost l n) = has_cause h (body.Lost l n)
 answer_fits h (body.Includes l x n) = has_cause h (body.Includes l x n)
 answer_fits h (body.Changed l n d) = was_called h (name l) n

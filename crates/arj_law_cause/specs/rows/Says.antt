@@ -1,16 +1,19 @@
 -- What an answer says of the lines before the place where it was made.
-use Rattle.std.specs.Prelude.{⊤, ◌≡◌, ℕ, Bool, true, false, List, [], ◌∷◌, ◌&&◌, not}
+use Rattle.std.specs.Prelude.{⊤, ◌≡◌, ℕ, Bool, true, false, List, [], ◌∷◌, ◌&&◌, not, drop}
 use Rattle.std.specs.List.{list_any}
 use Rattle.arj_base.specs.Uid.{entry, object, uid_eq}
 use Rattle.arj_class.specs.Table.{op_mode}
 use Rattle.arj_model.specs.Actions.{Act, acts}
 use Rattle.arj_model.specs.CauseAnswers.{has_lock, meets}
+use Rattle.arj_model.specs.CausePends.{called_at, pends_step}
+use Rattle.arj_model.specs.CauseSpans.{holds_in}
 use Rattle.arj_protocol.specs.Ask.{Reply, actor, top_of, top_path}
 use Rattle.arj_protocol.specs.Tree.{is_nested}
 use Rattle.arj_protocol.specs.Words.{Ask, Head, Line, Mode, Uid, uids_of}
 use Rattle.arj_protocol.specs.Words.ask
 use Rattle.arj_protocol.specs.Words.bound
 use Rattle.arj_protocol.specs.Words.invoked
+use Rattle.arj_protocol.specs.Words.loaded
 use Rattle.arj_protocol.specs.Words.mode
 use Rattle.arj_law_lock_view.specs.moments.Made.{Saying}
 use Rattle.arj_law_runs.specs.journal.Right.{has_act}
@@ -24,9 +27,19 @@ entry_modes false = mode.Read ∷ mode.Write ∷ []
 abbrev pub has_upper : List Act → Uid → Bool
 has_upper acts u = list_any (λ (a : Act). uid_eq a.uid u && not (is_nested a.kind)) acts
 
+-- whether a state of the action may be prepared at the node behind these lines, by whether it may before them: a line says so, or that the
+-- node stopped, and none that the end is done
+abbrev pub may_pend : ℕ → Uid → Bool → List Line → Bool
+may_pend n u on [] = on
+may_pend n u on (line ∷ rest) = may_pend n u (pends_step true n u line.body on) rest
+
+-- so it may since its commit was called
+abbrev pub may_be_pending : ℕ → Uid → List Line → Bool
+may_be_pending n u lines = holds_in (λ m. may_pend n u false (drop m.at lines)) (called_at lines u)
+
 -- A conflict: at a server the call, and at naming its top, meets the row of this holder in this mode, an action that began, at naming no
 -- nested one. Where a server answers with what the operation gives, the action has its lock; naming names a binding to no include; and
--- where it lets one go on, its top has the entry's write lock.
+-- where it lets one go on, its top has the entry's write lock. Where a store is in doubt, a state of whom it names may be prepared there.
 abbrev pub says_of : ℕ → Head → Ask → Reply → List Line → Type 0
 says_of n h (ask.Invoke x b i ends o) (Reply.Invoked (invoked.Conflict u m)) before =
     (meets n (uids_of h.path) (object x) (op_mode o) u m before ≡ true) × (has_act (acts before) u ≡ true)
@@ -39,6 +52,7 @@ says_of n h (ask.Bind x include avoid) (Reply.Bound (bound.Live b server i g sto
 says_of n h (ask.Bind x include avoid) (Reply.Bound (bound.Make b server g stores)) before = include ≡ false
 says_of n h (ask.Bind x include avoid) (Reply.Bound (bound.Write g stores)) before =
     has_lock 1 (top_of h.path) (entry x) mode.Write before ≡ true
+says_of n h (ask.Load x) (Reply.Loaded (loaded.InDoubt u)) before = may_be_pending n u before ≡ true
 says_of n h a r before = ⊤
 
 -- so it is of an answer

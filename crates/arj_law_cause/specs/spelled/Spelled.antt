@@ -10,7 +10,6 @@ use Rattle.arj_protocol.specs.Words.voted
 use Rattle.arj_law_parts.specs.moves.Keeps.{Holds}
 use Rattle.arj_law_parts.specs.moves.Seen.{In}
 use Rattle.arj_promise.specs.Runs.{IsInForm, Post, Run, Seen, world_by}
-use Rattle.arj_start.specs.Start.{Start, fresh}
 
 -- states that are voted restore
 abbrev pub VoteRestores : VotedReply → Type 0
@@ -33,23 +32,15 @@ AreSendable M = (p : Post) → In p M.sent → IsLeft p.message → IsSendable p
 
 -- ---- in runs in form
 
--- older states restore
-abbrev pub OlderRestore : Start → Type 0
-OlderRestore st = AllByRecursion (λ (a : ℕ × ObjectState). StateSends a.1) st.older
-
--- where older states restore, each message that was sent can be spelled
+-- each message that was sent can be spelled
 abbrev pub AreSpelled : Seen → Type 0
-AreSpelled M = OlderRestore M.start → (p : Post) → In p M.sent → IsSendable p.message
+AreSpelled M = (p : Post) → In p M.sent → IsSendable p.message
 
 -- ---- runs
 
 -- in every run in form
 abbrev pub RunsInFormSpell : Type 0
 RunsInFormSpell = (hd : Header) (r : Run hd) → IsInForm hd r → Holds hd AreSpelled (world_by hd r)
-
--- at a format there are no older states
-abbrev pub FreshRestores : Type 0
-FreshRestores = OlderRestore fresh
 
 -- in every run
 abbrev pub RunsSpell : Type 0

@@ -7,11 +7,17 @@ use Rattle.arj_journal.specs.declared.event.Event.{Event}
 use Rattle.arj_journal.specs.declared.header.Header.{Header}
 use Rattle.arj_model.specs.Follows.{Follows, Runs}
 use Rattle.arj_start.specs.Start.{Start}
-use Rattle.arj_law_cause.specs.kinds.Kinds.{is_abort_done, is_armed, is_commit_done, is_copy_shown, is_dropped, is_entry_shown}
-use Rattle.arj_law_cause.specs.kinds.Kinds.{is_found, is_got, is_granted_object, is_halted, is_limit, is_opening, is_quiet, is_sent, is_told}
-use Rattle.arj_law_cause.specs.kinds.Kinds.{is_told_by_server, is_up, is_void}
+use Rattle.arj_law_cause.specs.kinds.Kinds.{is_abort_done, is_active, is_armed, is_bare_abort, is_bound, is_commit_done, is_committed}
+use Rattle.arj_law_cause.specs.kinds.Kinds.{is_copy_shown}
+use Rattle.arj_law_cause.specs.kinds.Kinds.{is_dropped, is_entry_prepared, is_entry_shown, is_found, is_got, is_granted_object}
+use Rattle.arj_law_cause.specs.kinds.Kinds.{is_granted_entry, is_halted, is_limit, is_listed_abort, is_lock_lowered, is_lost_commit}
+use Rattle.arj_law_cause.specs.kinds.Kinds.{is_met_abort}
+use Rattle.arj_law_cause.specs.kinds.Kinds.{is_opening, is_prepared, is_quiet, is_sent, is_told, is_told_by_server, is_up, is_void}
 use Rattle.arj_law_cause.specs.kinds.Rows.{RowStep, TestedStep}
-use Rattle.arj_law_cause.specs.kinds.Tests.{is_copy_so, is_entry_so, is_granted_so, is_told_so}
+use Rattle.arj_law_cause.specs.kinds.Tests.{is_granted_so, is_committed_so, is_prepared_so, is_told_so}
+use Rattle.arj_law_cause.specs.rounds.Alone.{AloneStep}
+use Rattle.arj_law_cause.specs.rounds.Quiesces.{QuiescesStep}
+use Rattle.arj_law_cause.specs.rounds.Rounds.{EndsRounds}
 use Rattle.arj_law_cause.specs.rows.Lines.{AnswersStep}
 use Rattle.arj_law_cause.specs.waits.replies.Ends.{RepliesStep}
 
@@ -27,6 +33,17 @@ pub record TellsEvents (hd : Header) (st : Start) (es : List Event) (journal : L
   -- an action begins in the event that begins it, a commit is called, and a serializing action ends, in the event that commits it, and an
   -- action that is aborted as the script asks was open, and is the one of the event or below it
   pub openings : HaveCauses is_opening hd st es journal
+  -- a nested action commits in the event that commits it, and any other while its commit is under way
+  pub committed : Runs (TestedStep is_committed_so (λ h. is_committed) hd) st es journal
+  -- a commit is lost where the script gives up its action, while it is under way
+  pub lost : HaveCauses is_lost_commit hd st es journal
+  -- one is refused for a store that is listed where its action includes it, and it was listed by the journal where naming answered
+  pub included : HaveCauses is_listed_abort hd st es journal
+  -- and for want of stores where its action excludes all that were listed there, and all that it includes
+  pub bare : HaveCauses is_bare_abort hd st es journal
+  -- and for a conflict with another action where the top met this row there, on the entry of an object from which its action
+  -- excludes a store
+  pub met : Runs (RowStep is_met_abort hd) st es journal
 
 -- What calls are answered.
 pub record TellsAnswers (hd : Header) (st : Start) (es : List Event) (journal : List Line) : Type 0 where
@@ -45,6 +62,10 @@ pub record TellsNodes (hd : Header) (st : Start) (es : List Event) (journal : Li
   pub up : HaveCauses is_up hd st es journal
   -- which finds records of tops of its own alone, whose commit was called and which no line says was aborted
   pub found : HaveCauses is_found hd st es journal
+  -- something is prepared for an action that began, and whose commit was called
+  pub prepared : Runs (TestedStep is_prepared_so (λ h. is_prepared) hd) st es journal
+  -- and at naming only where it has excluded a store, or an include of it survives
+  pub listed : HaveCauses is_entry_prepared hd st es journal
   -- a commit is done of an action that is committed
   pub done : HaveCauses is_commit_done hd st es journal
   -- an abort is done of one that is over, and of a decided one only for a cause
@@ -53,8 +74,16 @@ pub record TellsNodes (hd : Header) (st : Start) (es : List Event) (journal : Li
   pub told : Runs (TestedStep is_told_so (λ h. is_told) hd) st es journal
   -- and a server that says so has a lock of it
   pub served : HaveCauses is_told_by_server hd st es journal
-  -- a lock on an object is granted, but in a restart, to an action that has none such there, and whose path meets none
-  pub granted : Runs (TestedStep is_granted_so (λ h. is_granted_object) hd) st es journal
+  -- a lock on an object is granted to an action that called for it, has none such there, and whose path meets none
+  pub granted : HaveCauses is_granted_object hd st es journal
+  -- so is one on an entry, in an event that is no restart: by naming, to the top of who called or included, or that excluded a store
+  pub locked : Runs (TestedStep is_granted_so (λ h. is_granted_entry) hd) st es journal
+  -- an object is bound by the next binding of naming's present life, to the server whose turn it is, under a write lock on its entry
+  pub bound : HaveCauses is_bound hd st es journal
+  -- a copy becomes active under a binding that was made for its node, newer than those of the object's copies of the node's present life
+  pub active : HaveCauses is_active hd st es journal
+  -- a top's write lock on an entry is lowered once a copy is active under a binding of naming's present incarnation
+  pub lowered : HaveCauses is_lock_lowered hd st es journal
 
 -- What goes between nodes, and when a run rests.
 pub record TellsWorld (hd : Header) (st : Start) (es : List Event) (journal : List Line) : Type 0 where
@@ -70,9 +99,18 @@ pub record TellsWorld (hd : Header) (st : Start) (es : List Event) (journal : Li
   -- a quiesce says that all is quiet where every node is up, no frame is open, and no action waits
   pub quiet : HaveCauses is_quiet hd st es journal
   -- an entry is shown as the lines before the event say, counted from where the run began
-  pub entries : Runs (TestedStep is_entry_so (λ h. is_entry_shown) hd) st es journal
-  -- a node shows a state while it is up; and where the entry was shown a listed store's is the last one so counted
-  pub copies : Runs (TestedStep is_copy_so (λ h. is_copy_shown) hd) st es journal
+  pub entries : HaveCauses is_entry_shown hd st es journal
+  -- a node shows a state while it is up, and a listed store's is the last one so counted
+  pub copies : HaveCauses is_copy_shown hd st es journal
+
+-- What quiesces answer, and what rounds of them leave.
+pub record TellsQuiesces (hd : Header) (st : Start) (es : List Event) (journal : List Line) : Type 0 where
+  -- a quiesce in which no node is down, and no limit met, answers whoever waits, but for calls that are overtaken
+  pub answers : Runs (QuiescesStep hd) st es journal
+  -- a round of such quiesces, with giveups of what waits between them, ends with a line that all is quiet
+  pub rounds : EndsRounds hd st es journal
+  -- on one node nobody waits for a quiesce: what is asked is answered in its own event, but for calls that are overtaken
+  pub alone : Runs (AloneStep hd) st es journal
 
 -- What a journal says of why it is so, by subject.
 pub record TellsItsCauses (hd : Header) (st : Start) (es : List Event) (journal : List Line) : Type 0 where
@@ -80,3 +118,4 @@ pub record TellsItsCauses (hd : Header) (st : Start) (es : List Event) (journal 
   pub answers : TellsAnswers hd st es journal
   pub nodes : TellsNodes hd st es journal
   pub world : TellsWorld hd st es journal
+  pub quiesces : TellsQuiesces hd st es journal

@@ -26,13 +26,18 @@ older = record {
   below = omega arith;
   other = λ same. let no_way : ◌≡◌ {A = ℕ} 2 4 = ap (λ (u : Uid). u.num) same in omega (arith, no_way);
   past = inr (omega arith);
+  bytes = (omega arith, (omega arith, (omega arith, (omega arith, (omega arith, (omega arith, (omega arith, (omega arith, tt))))))));
+  restores = (Account 0, refl, omega arith, tt, refl);
 }
 
 pub formed : IsFormed three_nodes later
 formed = record {
   states = λ x. inr (omega arith);
   entries = λ x. inr (omega arith);
+  writers = λ x. ((omega arith, omega arith, omega arith), (omega arith, omega arith, omega arith));
   short = λ x. omega arith;
+  brief = λ x. omega arith;
+  incs = λ n. omega arith;
   older = (older, tt);
   one = ((record { version = λ u v. refl; writer = λ u w. refl }, tt), tt);
 }

@@ -4,15 +4,12 @@ use Rattle.arj_protocol.specs.Words.{Header}
 use Rattle.arj_protocol.specs.Step.{Node}
 use Rattle.arj_protocol.specs.Tree.{at_place}
 use Rattle.arj_promise.specs.Runs.{Run, most_events, world_by}
+pub use Rattle.arj_start.specs.Limits.{last_inc}
 
 -- the incarnation of a node is at most the one with which it began, and one more for each event
 abbrev pub IncsRiseByOne : Type 0
 IncsRiseByOne = (hd : Header) (r : Run hd) (k : ℕ) (n : Node) → at_place k (world_by hd r).nodes ≡ Some n →
     n.disk.inc ≤ r.start.incs n.number + 1 + length r.moves
-
--- the greatest incarnation that 32 bits count
-abbrev pub last_inc : ℕ
-last_inc = 4294967295
 
 -- a node that began below the last ones has a next incarnation at every restart
 abbrev pub IncsHaveNext : Type 0

@@ -6,6 +6,3 @@ returns-clause-runs c = runs_spell
 
 pub returns-clause-forms : goal.returns-clause-forms
 returns-clause-forms c = runs_in_form
-
-pub returns-clause-fresh : goal.returns-clause-fresh
-returns-clause-fresh c = tt

@@ -51,7 +51,7 @@ steps_both hd P Q a b = record {
       (b.restart k d M event first h.1);
 }
 
-all_both : (hd : Header) (P Q : Moment → Type 0) → KeepsAll hd P → KeepsAll hd Q → KeepsAll hd (λ M. P M × Q M)
+pub all_both : (hd : Header) (P Q : Moment → Type 0) → KeepsAll hd P → KeepsAll hd Q → KeepsAll hd (λ M. P M × Q M)
 all_both hd P Q a b = record {
   opens = λ e M first number h. (a.opens e M first number h.0, b.opens e M first number h.1);
   closes = λ bodies M number lines h. (a.closes bodies M number lines h.0, b.closes bodies M number lines h.1);

@@ -1,0 +1,62 @@
+-- What quiesces must not do: leave a call, an include or a commit waiting, as where a tick forgets one kind of request; lose a call; or say
+-- that something is left to do where nothing is.
+use Rattle.std.specs.Prelude.{◌≡◌, refl, ◌⊎◌, List, [], ◌∷◌, ◌++◌, true, false, Some, codes}
+use Rattle.std.proofs.Common.{sym, ⊎_elim}
+use Rattle.arj_class.specs.declared.op.Op.TheVariants as op
+use Rattle.arj_journal.specs.declared.body.Body.{Body}
+use Rattle.arj_journal.specs.declared.body.Body.TheVariants as body
+use Rattle.arj_journal.specs.declared.body.FrameKind.TheVariants as frame
+use Rattle.arj_journal.specs.declared.event.Event.TheVariants as event
+use Rattle.arj_journal.specs.declared.event.FrameNo.TheVariants.{Number}
+use Rattle.arj_model.specs.Past.{Past, nothing_yet}
+use Rattle.arj_law_cause.specs.rounds.Quiesces.{Answers, IsWhole, QuiescesStep, SaysQuiet}
+use Rattle.arj_text.specs.Label.{name}
+use Rattle.arj_cause_tests.proofs.Words.{Wrote, end_from, l}
+use Rattle.arj_cause_tests.proofs.WrongEvents.{begins, two_nodes}
+
+-- an action that asked, whose request was lost
+abbrev asking : Wrote → Past
+asking asked = end_from nothing_yet (begins ∷ asked ∷ (event.Lose (Number 1), body.Dropped 1 ∷ []) ∷ [])
+
+-- a quiesce that asks nothing again
+abbrev silent : List Body
+silent = body.Quiet false ∷ []
+
+never_on : {A : Type 0} → false ≡ true → A
+never_on is = absurd (cc is)
+
+-- it leaves a call waiting
+call_left : QuiescesStep two_nodes (asking (event.Call (l 65) 1 (op.Add 1), body.Sent 1 1 2 frame.Bind ∷ [])) event.Quiesce silent → ⊥
+call_left s = ⊎_elim (λ still. never_on still.1) (λ answered. never_on answered)
+    ((s (record { quiesces = refl; up = refl; whole = refl })).calls (name (l 65)) (event.Call (l 65) 1 (op.Add 1)) refl)
+
+-- an include
+include_left : QuiescesStep two_nodes (asking (event.Include (l 65) 1 2, body.Sent 1 1 2 frame.Bind ∷ [])) event.Quiesce silent → ⊥
+include_left s = ⊎_elim (λ still. never_on still.1) (λ answered. never_on answered)
+    ((s (record { quiesces = refl; up = refl; whole = refl })).calls (name (l 65)) (event.Include (l 65) 1 2) refl)
+
+-- or a commit
+commit_left : QuiescesStep two_nodes (asking (event.Commit (l 65), body.Committing (l 65) ∷ body.Sent 1 1 2 frame.Vote ∷ [])) event.Quiesce
+    silent → ⊥
+commit_left s = never_on ((s (record { quiesces = refl; up = refl; whole = refl })).commits (name (l 65)) refl)
+
+-- a call may be lost in a giveup alone
+lost : QuiescesStep two_nodes (asking (event.Call (l 65) 1 (op.Add 1), body.Sent 1 1 2 frame.Bind ∷ [])) event.Quiesce
+    (body.Lost (l 65) 2 ∷ silent) → ⊥
+lost s = never_on (sym (s (record { quiesces = refl; up = refl; whole = refl })).nothing)
+
+-- where nobody waits all is quiet
+quiet_said : (front : List Body) → silent ≡ front ++ body.Quiet true ∷ [] → ⊥
+quiet_said [] is = absurd (cc is)
+quiet_said (b ∷ []) is = absurd (cc is)
+quiet_said (b ∷ c ∷ rest) is = absurd (cc is)
+
+not_quiet : QuiescesStep two_nodes (end_from nothing_yet (begins ∷ [])) event.Quiesce silent → ⊥
+not_quiet s = let q = (s (record { quiesces = refl; up = refl; whole = refl })).calm refl refl in quiet_said q.0 q.1
+
+-- A quiesce in which a node is down, or halts, may leave all of this.
+down_free : IsWhole two_nodes (end_from nothing_yet (begins ∷ (event.Crash 2, body.Halted 2 ∷ []) ∷ [])) event.Quiesce silent → ⊥
+down_free w = never_on w.up
+
+halt_free : IsWhole two_nodes (end_from nothing_yet (begins ∷ [])) event.Quiesce (body.Halted 2 ∷ silent) → ⊥
+halt_free w = never_on (sym w.whole)

@@ -1,0 +1,681 @@
+-- The copies that servers have stand in the journal: each became active there under its binding, which naming made for that node, and none
+-- that did in the node's present life is newer.
+use Rattle.arj_law_parts.proofs.Words
+use Words.{◌≡◌, ◌⊎◌, ◌≤◌, ◌∙◌, ◌+◌, ◌==◌, ◌++◌, ◌&&◌, ◌||◌, not, ℕ, Bool, true, false, cond, filter, List, [], ◌∷◌, map, Option, Some}
+use Words.{None, refl}
+use Words.{sym, ap, subst, ⊤, arith, nat_tests, nat_lt, append-nil, list_all, and_parts, eqb-true, eq-eqb, option_map, AllByRecursion}
+use Words.{Ask, Asked}
+use Words.{Binding, Body, End, Head, Header, InvokedReply, Line, Message, ObjectState, Op, Path, Start, Uid, VotedReply, What, Row, asks}
+use Words.{answers}
+use Words.{Reply, actor, asked_by, heard, last_end, object, response, Coord, Disk, Do, Effect, Look, Pair, Prep, Already, InDoubt, Old}
+use Words.{Ready, Say}
+use Words.{Send, Did, Served, did_nothing, either, held_at, holder_of, is_prepared, prepare_answer, reply, void, acked, answer_query}
+use Words.{Naming}
+use Words.{Handled, Parts, Took, Void, ack_told, by_reply, coord_heard, handle, handle_answer, handle_ask, handle_ends, handle_other}
+use Words.{holders}
+use Words.{if_naming, is_earlier, is_meant, load_by, load_held, naming_told, prepare_by, query_about, sends_answer, serve, store_told}
+use Words.{with_coord}
+use Words.{with_naming, with_server, at_number, at_uid, binding_eq, binding_less, binding_number, each, put_number, put_other, put_same}
+use Words.{is_eq}
+use Words.{nat_cmp, AreAll, is_coord_effect, is_coord_line, is_naming_effect, is_naming_line, acked_own, bind_own, confirm, confirm_own}
+use Words.{heard_own, map_own, note_own, query_own, told_own, all_both, end_states, is_coord_line, Copy, end_copy, invoke_copy, Kept}
+use Words.{Server}
+use Words.{active_binding, apply_ends, binding_of, changed_by, end_new, end_one, first_unbound, has_ended, invoke_kept, invoke_new}
+use Words.{invoke_now}
+use Words.{is_below, is_told, on_copy, other_inc, took_copy, vote_now, is_granted, row_for, first_conflict, op_mode, uids_of, tops_of}
+use Words.{last_uid}
+use Words.{new_server, parts_in, numbered, restart_outs, Node, Seen, see, world_from}
+use Words.ask
+use Words.body
+use Words.ending
+use Words.loaded
+use Words.message
+use Words.naming
+use Words.prepared
+use Words.role
+use Words.server
+use Rattle.arj_law_parts.proofs.parts.ServerRuns.{ask_binding, end_binding}
+use Rattle.arj_law_parts.proofs.steps.Still.{Still, is_still, says_still}
+use Rattle.arj_law_parts.specs.moves.Seen.{AreQuiet, In, at, down, is_quiet_line, up}
+use Rattle.arj_law_runs.proofs.calls.Given.{KeepsGiven}
+use Rattle.arj_law_runs.proofs.follow.Halts as halts
+use Rattle.arj_law_runs.proofs.follow.Uids.{KnowsNext}
+use Rattle.arj_law_runs.proofs.kept.Starts.{first_up}
+use Rattle.arj_law_runs.proofs.kept.Walked.{same_number}
+use Rattle.arj_law_serial.proofs.holding.Says as saying
+use Rattle.arj_model.specs.Actions.{Placed}
+use Rattle.arj_model.specs.CauseCopies.{Activation}
+use Rattle.arj_protocol.proofs.Unknown.{found_each}
+use Rattle.arj_protocol.specs.Copy.{ask_copy}
+use Rattle.arj_law_cause.proofs.bindings.Asking.{AskedSo}
+use Rattle.arj_law_cause.proofs.bindings.Counted.{Names, owns}
+use Rattle.arj_law_cause.proofs.bindings.Lines.{IsActive, IsLined, active_last, active_more, copies, copies_still, copies_with}
+use Rattle.arj_law_cause.proofs.bindings.Lines.{lined_more, quiet_tells, tells}
+use Rattle.arj_law_cause.proofs.bindings.Named.{OfServer}
+use Rattle.arj_law_cause.proofs.bindings.Nodes as nodes
+use Rattle.arj_law_cause.proofs.bindings.Nodes.{is_own, own_all}
+
+some_is : {A : Type 0} {a b : A} → Some a ≡ Some b → a ≡ b
+some_is {A} {a} {b} is = let k : ◌≡◌ {A = Option A} (Some a) (Some b) = is in cc
+
+none_is : {A P : Type 0} {x : A} → None ≡ Some x → P
+none_is {A} {P} {x} is = let no_way : ◌≡◌ {A = Option A} None (Some x) = is in absurd (cc no_way)
+
+-- ---- what is known
+
+-- a copy that became active at the node isn't newer than the one that the server has, and naming made its binding for the node
+abbrev pub IsUnder : ℕ → Server → List Line → Placed Activation → Type 0
+IsUnder j s ls a = let c = a.it in (c.node == j) ≡ true →
+    (binding_number c.binding ≤ binding_number (active_binding c.x s)) × IsLined ls c.x c.binding j
+
+pub record HasCopies (j : ℕ) (s : Server) (ls : List Line) : Type 0 where
+  pub there : (x : ℕ) (c : Copy) → at_number x s.objects ≡ Some c → IsLined ls x c.binding j × IsActive ls j x c.binding
+  pub above : AllByRecursion (IsUnder j s ls) (copies j ls)
+
+abbrev pub Copied : ℕ → Parts → Start → List Line → Type 0
+Copied j t st ls = HasCopies j t.server ls
+
+abbrev pub Anything : Start → List Line → Type 0
+Anything st ls = ⊤
+
+pub anything_stays : (st : Start) (ls : List Line) (e : ℕ) (b : Body) → tells b ≡ false → Anything st ls →
+    Anything st (ls ++ numbered e (b ∷ []))
+anything_stays st ls e b is g = tt
+
+-- ---- lines
+
+unders : (j : ℕ) (s v : Server) (ls ms : List Line) → ((x : ℕ) → binding_number (active_binding x s) ≤ binding_number
+    (active_binding x v)) →
+    ((x : ℕ) (b : Binding) (n : ℕ) → IsLined ls x b n → IsLined ms x b n) → (cs : List (Placed Activation)) →
+    AllByRecursion (IsUnder j s ls) cs → AllByRecursion (IsUnder j v ms) cs
+unders j s v ls ms rises more [] all = tt
+unders j s v ls ms rises more (a ∷ cs) all = (one all.0, unders j s v ls ms rises more cs all.1)
+  where
+    most : (k m n : ℕ) → k ≤ m → m ≤ n → k ≤ n
+    most k m n p q = omega (arith, p, q)
+
+    one : IsUnder j s ls a → IsUnder j v ms a
+    one its here = let c = a.it in let f = its here in (
+      most (binding_number c.binding) (binding_number (active_binding c.x s)) (binding_number (active_binding c.x v)) f.0 (rises c.x),
+      more c.x c.binding j f.1,
+    )
+
+copies_moved : (j : ℕ) (s : Server) (ls ms : List Line) → copies j (ls ++ ms) ≡ copies j ls → HasCopies j s ls → HasCopies j s (ls ++ ms)
+copies_moved j s ls ms same h = record {
+  there = λ x c at. let r = h.there x c at in (lined_more ls ms x c.binding j r.0, active_more ls ms j x c.binding r.1);
+  above = subst (AllByRecursion (IsUnder j s (ls ++ ms))) (sym same)
+      (unders j s s ls (ls ++ ms) (λ x. least (binding_number (active_binding x s))) (λ x b n. lined_more ls ms x b n) (copies j ls)
+      h.above);
+}
+  where
+    least : (n : ℕ) → n ≤ n
+    least n = omega arith
+
+pub copied_keeps : (j : ℕ) (t : Parts) (st : Start) (ls : List Line) (e : ℕ) (b : Body) → tells b ≡ false → Copied j t st ls →
+    Copied j t st (ls ++ numbered e (b ∷ []))
+copied_keeps j t st ls e b is h = copies_moved j t.server ls (numbered e (b ∷ [])) (copies_still j ls e b is) h
+
+turned : (m n : ℕ) → (m == n) ≡ false → (n == m) ≡ false
+turned m n is = grind (arith, nat_tests, is)
+
+all_more : (P : Placed Activation → Type 0) (xs : List (Placed Activation)) (a : Placed Activation) → AllByRecursion P xs → P a →
+    AllByRecursion P (xs ++ a ∷ [])
+all_more P [] a all its = (its, tt)
+all_more P (x ∷ xs) a all its = (all.0, all_more P xs a all.1 its)
+
+-- a line of a binding
+copied_bound : (j : ℕ) (s : Server) (ls : List Line) (e x : ℕ) (b : Binding) (n : ℕ) → HasCopies j s ls →
+    HasCopies j s (ls ++ numbered e (body.Bound x b n ∷ []))
+copied_bound j s ls e x b n h = copies_moved j s ls (numbered e (body.Bound x b n ∷ []))
+    (copies_with j ls e (body.Bound x b n) ∙ append-nil (copies j ls)) h
+
+pub copied_off : (j k : ℕ) → (j == k) ≡ false → (t : Parts) (st : Start) (ls : List Line) (e : ℕ) (b : Body) → is_own k b ≡ true →
+    Copied j t st ls → Copied j t st (ls ++ numbered e (b ∷ []))
+copied_off j k off t st ls e (body.Bound x b s) own h = copied_bound j t.server ls e x b s h
+copied_off j k off t st ls e (body.Active n x b) own h = record {
+  there = λ y c at. let r = h.there y c at in (lined_more ls line y c.binding j r.0, active_more ls line j y c.binding r.1);
+  above = subst (AllByRecursion (IsUnder j t.server (ls ++ line))) (sym (copies_with j ls e (body.Active n x b)))
+      (all_more (IsUnder j t.server (ls ++ line)) (copies j ls) _
+      (unders j t.server t.server ls (ls ++ line) (λ y. least (binding_number (active_binding y t.server)))
+      (λ y c m. lined_more ls line y c m)
+      (copies j ls) h.above) (λ here. absurd (cc (sym here ∙ other))));
+}
+  where
+    line : List Line
+    line = numbered e (body.Active n x b ∷ [])
+
+    least : (n : ℕ) → n ≤ n
+    least n = omega arith
+
+    other : (n == j) ≡ false
+    other = (λ i. eqb-true n k own i == j) ∙ turned j k off
+copied_off j k off t st ls e (body.Up n i) own h = copies_moved j t.server ls (numbered e (body.Up n i ∷ []))
+    (copies_with j ls e (body.Up n i) ∙ (λ z. cond (other z) [] (copies j ls ++ [])) ∙ append-nil (copies j ls)) h
+  where
+    other : (n == j) ≡ false
+    other = (λ z. eqb-true n k own z == j) ∙ turned j k off
+copied_off j k off t st ls e b own h = copied_keeps j t st ls e b refl h
+
+abbrev pub Copies : Seen → Type 0
+Copies = nodes.HoldsSo Copied Anything copied_keeps copied_off anything_stays
+
+abbrev Due : ℕ → Parts → Start → ℕ → List Effect → List Line → Type 0
+Due = nodes.Due Copied Anything copied_keeps copied_off anything_stays
+
+-- ---- servers that take no copy
+
+abbrev binding_at : ℕ → Server → Option Binding
+binding_at x s = option_map (λ (c : Copy). c.binding) (at_number x s.objects)
+
+abbrev SameCopies : Server → Server → Type 0
+SameCopies s t = (x : ℕ) → binding_at x t ≡ binding_at x s
+
+-- no copy becomes active by the line, and no node starts
+abbrev pub is_idle : Body → Bool
+is_idle (body.Active n x b) = false
+is_idle (body.Up n i) = false
+is_idle b = true
+
+abbrev pub Idle : List Effect → Type 0
+Idle es = saying.All is_idle es
+
+active_is : (x : ℕ) (s : Server) → active_binding x s ≡ Words.unwrap_or (binding_at x s) Words.unbound
+active_is x s = by (at_number x s.objects)
+  where
+    by : (o : Option Copy) → binding_of o ≡ Words.unwrap_or (option_map (λ (c : Copy). c.binding) o) Words.unbound
+    by None = refl
+    by (Some c) = refl
+
+same_copied : (j : ℕ) (s t : Server) (ls : List Line) → SameCopies s t → HasCopies j s ls → HasCopies j t ls
+same_copied j s t ls same h = record {
+  there = λ x c at. before x c (sym (same x) ∙ ap (option_map (λ (c : Copy). c.binding)) at) (at_number x s.objects) refl;
+  above = unders j s t ls ls (λ x. most (binding_number (active_binding x s)) (binding_number (active_binding x t))
+      (ap binding_number (active_is x s ∙ ap (λ o. Words.unwrap_or o Words.unbound) (sym (same x)) ∙ sym (active_is x t))))
+      (λ x b n l. l) (copies j ls) h.above;
+}
+  where
+    most : (m n : ℕ) → m ≡ n → m ≤ n
+    most m n is = omega (arith, is)
+
+    before : (x : ℕ) (c : Copy) → binding_at x s ≡ Some c.binding → (o : Option Copy) → at_number x s.objects ≡ o →
+        IsLined ls x c.binding j × IsActive ls j x c.binding
+    before x c is None at = none_is (ap (option_map (λ (c : Copy). c.binding)) (sym at) ∙ is)
+    before x c is (Some q) at =
+        let f = h.there x q at in
+        let b : q.binding ≡ c.binding = some_is (ap (option_map (λ (c : Copy). c.binding)) (sym at) ∙ is) in
+        (subst (λ z. IsLined ls x z j) b f.0, subst (IsActive ls j x) b f.1)
+
+abbrev ServerStays : Server → Server → List Effect → Type 0
+ServerStays s t outs = SameCopies s t × Idle outs
+
+same_key : (k n : ℕ) → is_eq (nat_cmp k n) ≡ true → n ≡ k
+same_key k n is = grind (arith, is)
+
+one_stays : (n : ℕ) (u : Uid) (e : End) (s : Server) → ServerStays s (end_one n u e s).part (end_one n u e s).outs
+one_stays n u e s = by (is_told u s)
+  where
+    f : End
+    f = server.taken_end u e s
+
+    copies_same : SameCopies s (end_new n u f s).part
+    copies_same x = ap (option_map (λ (c : Copy). c.binding)) (found_each (λ y. end_copy u f) x s.objects) ∙ one (at_number x s.objects)
+      where
+        one : (o : Option Copy) → option_map (λ (c : Copy). c.binding) (option_map (end_copy u f) o) ≡ option_map
+            (λ (c : Copy). c.binding) o
+        one None = refl
+        one (Some c) = ap Some (end_binding u f c)
+
+    lines : (b : Bool) → Idle (cond b (Say (body.Told n u f Words.part.Server) ∷ []) [])
+    lines true = refl
+    lines false = refl
+
+    by : (b : Bool) → (let d = cond {A = Did Server} b (did_nothing s) (end_new n u f s) in ServerStays s d.part d.outs)
+    by true = ((λ x. refl), refl)
+    by false = (copies_same, lines (server.has_locks u s))
+
+ends_stay : (n : ℕ) (es : List (Uid × End)) (s : Server) → ServerStays s (apply_ends n es s).part (apply_ends n es s).outs
+ends_stay n [] s = ((λ x. refl), refl)
+ends_stay n (e ∷ es) s =
+    let d = end_one n e.0 e.1 s in
+    let a = one_stays n e.0 e.1 s in
+    let b = ends_stay n es d.part in
+    ((λ x. b.0 x ∙ a.0 x), all_both (saying.says is_idle) d.outs (apply_ends n es d.part).outs a.1 b.1)
+
+invoke_stays : (n : ℕ) (h : Head) (x : ℕ) (b : Binding) (i : ℕ) (es : List (Uid × End)) (o : Op) (s : Server) →
+    ServerStays s (server.invoke n h x b i es o s).part (server.invoke n h x b i es o s).outs
+invoke_stays n h x b i es o s = by (has_ended h.path s || is_below h.req (at_uid (actor h.path) s.kept)) (changed_by i x b s)
+  where
+    Stays : Served Server InvokedReply → Type 0
+    Stays r = ServerStays s r.part r.outs
+
+    kept : (act : Uid) (req : ℕ) (q : Option InvokedReply) (v : Server) → SameCopies s v → SameCopies s (server.keeps act req q v)
+    kept act req None v same = same
+    kept act req (Some a) v same = same
+
+    asked_idle : (c : Copy) (r : Option Row) → Idle (ask_copy n h.path x o c r).outs
+    asked_idle c (Some r) = refl
+    asked_idle c None = one (is_granted (object x) (last_uid (uids_of h.path)) (op_mode o) c.rows)
+      where
+        one : (b : Bool) → Idle (cond b [] (Say (body.Granted n (last_uid (uids_of h.path)) (object x) (op_mode o)) ∷ []))
+        one true = refl
+        one false = refl
+
+    t : Server
+    t = (apply_ends n es s).part
+
+    ends : ServerStays s (apply_ends n es s).part (apply_ends n es s).outs
+    ends = ends_stay n es s
+
+    new : Stays (invoke_new n h x es o s)
+    new = one (at_number x t.objects) refl
+      where
+        one : (f : Option Copy) → at_number x t.objects ≡ f → (let r = on_copy x (invoke_copy n h.path x o) t f in
+            ServerStays s (server.keeps (actor h.path) h.req r.reply r.part) ((apply_ends n es s).outs ++ r.outs))
+        one None there = (
+          kept (actor h.path) h.req (let r = on_copy x (invoke_copy n h.path x o) t None in r.reply) t ends.0,
+          all_both (saying.says is_idle) (apply_ends n es s).outs [] ends.1 refl,
+        )
+        one (Some c) there =
+            let r = invoke_copy n h.path x o c in (
+              kept (actor h.path) h.req r.reply (record t { objects = put_number x r.part t.objects }) (λ y. put_so y ∙ ends.0 y),
+              all_both (saying.says is_idle) (apply_ends n es s).outs r.outs ends.1
+                  (asked_idle c (first_conflict (uids_of h.path) (object x) (op_mode o) c.rows)),
+            )
+          where
+            put_so : (y : ℕ) → option_map (λ (c : Copy). c.binding) (at_number y
+                (put_number x (invoke_copy n h.path x o c).part t.objects)) ≡
+                binding_at y t
+            put_so y = by (is_eq (nat_cmp y x)) refl
+              where
+                q : Copy
+                q = (invoke_copy n h.path x o c).part
+
+                by : (b : Bool) → is_eq (nat_cmp y x) ≡ b →
+                    option_map (λ (c : Copy). c.binding) (at_number y (put_number x q t.objects)) ≡ binding_at y t
+                by true is = ap (option_map (λ (c : Copy). c.binding))
+                    (ap (λ z. at_number z (put_number x q t.objects)) (sym (same_key y x is))
+                    ∙ put_same x q t.objects) ∙ ap Some (ask_binding n h.path x o c)
+                    ∙ ap (option_map (λ (c : Copy). c.binding)) (sym there ∙ ap (λ z. at_number z t.objects) (same_key y x is))
+                by false is = ap (option_map (λ (c : Copy). c.binding)) (put_other x y q t.objects is)
+
+    again : (f : Option Kept) → Stays (invoke_kept n h x es o s f)
+    again None = new
+    again (Some f) = one (f.req == h.req)
+      where
+        one : (c : Bool) → Stays (cond {A = Served Server InvokedReply} c (reply s f.answer) (invoke_new n h x es o s))
+        one true = ((λ x. refl), refl)
+        one false = new
+
+    now : (f : Option What) → Stays (invoke_now n h x es o s f)
+    now (Some f) = ((λ x. refl), refl)
+    now None = again (at_uid (actor h.path) s.kept)
+
+    by : (c : Bool) (f : Option What) → Stays (cond {A = Served Server InvokedReply} c (void s) (invoke_now n h x es o s f))
+    by true f = ((λ x. refl), refl)
+    by false f = now f
+
+vote_stays : (n : ℕ) (p : Path) (i : ℕ) (ties : List (ℕ × Binding)) (es : List (Uid × End)) (s : Server) →
+    ServerStays s (server.vote n p i ties es s).part (server.vote n p i ties es s).outs
+vote_stays n p i ties es s = by (has_ended p s) (either (other_inc i s.inc) (first_unbound ties s))
+  where
+    by : (v : Bool) (w : Option What) → (let r = cond {A = Served Server VotedReply} v (void s) (vote_now n (actor p) es s w) in
+        ServerStays s r.part r.outs)
+    by true w = ((λ x. refl), refl)
+    by false (Some w) = ((λ x. refl), refl)
+    by false None = ends_stay n es s
+
+-- ---- a message
+
+abbrev pub is_activate : Option (Head × Ask) → Bool
+is_activate (Some (h, ask.Activate b st)) = true
+is_activate _ = false
+
+naming_idle : (es : List Effect) → AreAll is_naming_effect es → Idle es
+naming_idle = saying.kind_says is_idle is_naming_effect is_naming_line (λ b. refl) one
+  where
+    one : (b : Body) → is_naming_line b ≡ true → is_idle b ≡ true
+    one (body.Active n x b) is = absurd (cc is)
+    one (body.Up n i) is = absurd (cc is)
+    one b is = refl
+
+coord_idle : (es : List Effect) → AreAll is_coord_effect es → Idle es
+coord_idle = saying.kind_says is_idle is_coord_effect is_coord_line (λ b. refl) one
+  where
+    one : (b : Body) → is_coord_line b ≡ true → is_idle b ≡ true
+    one (body.Active n x b) is = absurd (cc is)
+    one (body.Up n i) is = absurd (cc is)
+    one b is = refl
+
+module _ (k : ℕ) (d : Disk) (t : Parts) (from : ℕ) where
+  abbrev pub StaysBy : Handled → Type 0
+  StaysBy (Void outs) = ⊤
+  StaysBy (Took v outs) = ServerStays t.server v.server outs
+
+  none_yet : SameCopies t.server t.server
+  none_yet x = refl
+
+  answered : (h : Head) (v : Parts) (outs : List Effect) (o : Option Reply) → SameCopies t.server v.server → Idle outs →
+      StaysBy (sends_answer from h v outs o)
+  answered h v outs None same idle = tt
+  answered h v outs (Some r) same idle = (same, all_both (saying.says is_idle) outs (Send from (response (asked_by h) r) ∷ []) idle refl)
+
+  with_it : (f : Naming → Handled) (o : Option Naming) → ((n : Naming) → StaysBy (f n)) → StaysBy (if_naming f o)
+  with_it f None each = tt
+  with_it f (Some n) each = each n
+
+  asked : (h : Head) (a : Ask) → is_activate (Some (h, a)) ≡ false → StaysBy (serve k d t from h a)
+  asked h (ask.Bind x include avoid) off = with_it _ t.naming (λ n. let r = naming.bind h.path x include avoid d.names n in
+      answered h (with_naming t r.part) r.outs (option_map Reply.Bound r.reply) none_yet
+      (naming_idle r.outs (bind_own h.path x include avoid d.names n)))
+  asked h (ask.Load x) off = load (holder_of (object x) d.store)
+    where
+      held : (s : Option ObjectState) → StaysBy (load_held from h t s)
+      held None = tt
+      held (Some s) = (none_yet, refl)
+
+      load : (o : Option Uid) → StaysBy (load_by x d.store from h t o)
+      load (Some u) = (none_yet, refl)
+      load None = held (held_at (object x) d.store)
+  asked h (ask.Activate b st) off = absurd (cc off)
+  asked h (ask.Record x b i g) off = with_it _ t.naming (λ n. let r = naming.note h.path x b i g n in
+      answered h (with_naming t r.part) r.outs (option_map Reply.Noted r.reply) none_yet (naming_idle r.outs (note_own h.path x b i g n)))
+  asked h (ask.Invoke x b i es o) off = let r = server.invoke k h x b i es o t.server in let s = invoke_stays k h x b i es o t.server in
+      answered h (with_server t r.part) r.outs (option_map Reply.Invoked r.reply) s.0 s.1
+  asked h (ask.Vote i ties es) off = let r = server.vote k h.path i ties es t.server in let s = vote_stays k h.path i ties es t.server in
+      answered h (with_server t r.part) r.outs (option_map Reply.Voted r.reply) s.0 s.1
+  asked h (ask.Prepare states) off = twice (is_prepared (actor h.path) d.store)
+    where
+      new : (a : Prep) → StaysBy (prepare_by k states from h t a)
+      new Ready = (none_yet, refl)
+      new (Already u) = tt
+      new (Old u w) = (none_yet, refl)
+      new (InDoubt u holder) = (none_yet, refl)
+
+      twice : (b : Bool) → StaysBy (cond b (sends_answer from h t [] (Some (Reply.Prepared prepared.Yes)))
+          (prepare_by k states from h t (prepare_answer (actor h.path) states d.store)))
+      twice true = (none_yet, refl)
+      twice false = new (prepare_answer (actor h.path) states d.store)
+  asked h (ask.Confirm grants excluded included) off = with_it _ t.naming (λ n.
+      let r = confirm h.path grants excluded included d.names n in
+      answered h (with_naming t r.part) r.outs (option_map Reply.Confirmed r.reply) none_yet
+      (naming_idle r.outs (confirm_own h.path grants excluded included d.names n)))
+
+  coord_left : (r : Served Coord (Unit {0})) → AreAll is_coord_effect r.outs → StaysBy (coord_heard t r)
+  coord_left r own = by r.reply
+    where
+      by : (o : Option (Unit {0})) → StaysBy (by_reply (with_coord t r.part) r.outs o)
+      by None = tt
+      by (Some u) = (none_yet, coord_idle r.outs own)
+
+  ends_left : (ack : Bool) (ends : List (Uid × End)) (o : Option (Uid × End)) → StaysBy (handle_ends k d t from ack ends o)
+  ends_left ack ends None = (none_yet, refl)
+  ends_left ack ends (Some e) =
+      let s = server.told k ends t.server in
+      let o = naming_told e.0 e.1 d.names t.naming in
+      let a = ends_stay k ends t.server in (
+        a.0,
+        all_both (saying.says is_idle) (store_told k e.0 e.1 d.store ++ o.outs ++ s.outs) (ack_told from e.0 ack)
+            (all_both (saying.says is_idle) (store_told k e.0 e.1 d.store ++ o.outs) s.outs
+            (all_both (saying.says is_idle) (store_told k e.0 e.1 d.store) o.outs (stored (is_prepared e.0 d.store) e.1) (named t.naming))
+            a.1) (acks ack),
+      )
+    where
+      stored : (b : Bool) (f : End) → Idle (cond b (end_states k e.0 f) [])
+      stored false f = refl
+      stored true ending.Commit = refl
+      stored true ending.Abort = refl
+
+      named : (o : Option Naming) → Idle (naming_told e.0 e.1 d.names o).outs
+      named None = refl
+      named (Some n) = naming_idle (naming.told e.0 e.1 d.names n).outs (told_own e.0 e.1 d.names n)
+
+      acks : (b : Bool) → Idle (ack_told from e.0 b)
+      acks true = refl
+      acks false = refl
+
+  other : (m : Message) → StaysBy (handle_other k d t from m)
+  other (message.Told n) = ends_left n.ack n.ends (last_end n.ends)
+  other (message.Acked n) = coord_left (acked from n.act d.intents t.coord) (acked_own from n.act d.intents t.coord)
+  other (message.Query n) = (none_yet, coord_idle (answer_query from n.act d.intents t.coord) (query_own from n.act d.intents t.coord))
+  other (message.Hello n) = (
+    none_yet,
+    coord_idle (map query_about (filter (is_earlier n.node n.inc) (holders d t)))
+        (map_own query_about (filter (is_earlier n.node n.inc) (holders d t)) (λ u. refl)),
+  )
+  other (message.Bind n) = tt
+  other (message.Bound n) = tt
+  other (message.Load n) = tt
+  other (message.Loaded n) = tt
+  other (message.Activate n) = tt
+  other (message.Activated n) = tt
+  other (message.RecordMsg n) = tt
+  other (message.Recorded n) = tt
+  other (message.Invoke n) = tt
+  other (message.Invoked n) = tt
+  other (message.Vote n) = tt
+  other (message.Voted n) = tt
+  other (message.Prepare n) = tt
+  other (message.Prepared n) = tt
+  other (message.Confirm n) = tt
+  other (message.Confirmed n) = tt
+
+  pub message_copies : (m : Message) (o : Option (Head × Ask)) → is_activate o ≡ false → StaysBy (handle_ask k d t from m o)
+  message_copies m None off = answer (answers m)
+    where
+      answer : (o : Option (Asked × Reply)) → StaysBy (handle_answer k d t from m o)
+      answer None = other m
+      answer (Some a) = coord_left (heard from a.0 a.1 d.intents t.coord) (heard_own from a.0 a.1 d.intents t.coord)
+  message_copies m (Some a) off = asked a.0 a.1 off
+
+-- ---- effects by which no copy becomes active
+
+idle_copied : (k : ℕ) (v : Parts) (st : Start) (ls : List Line) (e : ℕ) (b : Body) → is_idle b ≡ true → Copied k v st ls →
+    Copied k v st (ls ++ numbered e (b ∷ []))
+idle_copied k v st ls e (body.Active n x b) is h = absurd (cc is)
+idle_copied k v st ls e (body.Up n i) is h = absurd (cc is)
+idle_copied k v st ls e (body.Bound x b s) is h = copied_bound k v.server ls e x b s h
+idle_copied k v st ls e b is h = copied_keeps k v st ls e b refl h
+
+idle_due : (k : ℕ) (v : Parts) (st : Start) (e : ℕ) (es : List Effect) → Idle es → (ls : List Line) → Copied k v st ls → Due k v st e es ls
+idle_due k v st e [] all ls h = h
+idle_due k v st e (Do w ∷ es) all ls h = idle_due k v st e es all ls h
+idle_due k v st e (Say b ∷ es) all ls h =
+    let q = and_parts (is_idle b) (list_all (saying.says is_idle) es) all in
+    (tt, idle_due k v st e es q.1 (ls ++ numbered e (b ∷ [])) (idle_copied k v st ls e b q.0 h))
+idle_due k v st e (Send to m ∷ es) all ls h = λ more quiet. idle_due k v st e es all (ls ++ numbered e more) (lines more quiet ls h)
+  where
+    lines : (bs : List Body) → AreQuiet bs → (ms : List Line) → Copied k v st ms → Copied k v st (ms ++ numbered e bs)
+    lines [] are ms h = subst (Copied k v st) (sym (append-nil ms)) h
+    lines (b ∷ bs) are ms h =
+        let q = and_parts (is_quiet_line b) (list_all is_quiet_line bs) are in
+        subst (Copied k v st) (Words.append_assoc ms (numbered e (b ∷ [])) (numbered e bs)) (lines bs q.1 (ms ++ numbered e (b ∷ []))
+        (copied_keeps k v st ms e b (quiet_tells b q.0) h))
+
+-- ---- an Activate
+
+module _ (k e : ℕ) (t : Parts) (st : Start) (from : ℕ) (h : Head) (b : Binding) (u : ObjectState) (ls : List Line)
+    (lined : IsLined ls (let i = u.uid in i.num) b k) (had : HasCopies k t.server ls) where
+  abbrev x : ℕ
+  x = let i = u.uid in i.num
+
+  abbrev DueBy : Handled → Type 0
+  DueBy (Void es) = ⊤
+  DueBy (Took w es) = Due k w st e es ls
+
+  took : binding_less b (active_binding x t.server) ≡ false →
+      Due k (with_server t (took_copy k x b u t.server).part) st e
+      ((took_copy k x b u t.server).outs ++ Send from (response (asked_by h) (Reply.Activated (let s = t.server in s.inc))) ∷ []) ls
+  took low = (
+    tt,
+    idle_due k (with_server t (took_copy k x b u t.server).part) st e
+        (Send from (response (asked_by h) (Reply.Activated (let s = t.server in s.inc))) ∷ []) refl (ls ++ line) now,
+  )
+    where
+      line : List Line
+      line = numbered e (body.Active k x b ∷ [])
+
+      v : Server
+      v = (took_copy k x b u t.server).part
+
+      here : at_number x v.objects ≡ Some (Words.taken_copy b u)
+      here = put_same x (Words.taken_copy b u) (let s = t.server in s.objects)
+
+      rises : (y : ℕ) → binding_number (active_binding y t.server) ≤ binding_number (active_binding y v)
+      rises y = by (is_eq (nat_cmp y x)) refl
+        where
+          at_most : (m n : ℕ) → nat_lt n m ≡ false → m ≤ n
+          at_most m n is = grind (arith, nat_tests, is)
+
+          same : (m n : ℕ) → m ≡ n → m ≤ n
+          same m n is = omega (arith, is)
+
+          by : (c : Bool) → is_eq (nat_cmp y x) ≡ c → binding_number (active_binding y t.server) ≤ binding_number (active_binding y v)
+          by true at = subst (λ z. binding_number (active_binding z t.server) ≤ binding_number (active_binding z v)) (same_key y x at)
+              (subst (λ (o : Option Copy). binding_number (active_binding x t.server) ≤ binding_number (binding_of o)) (sym here)
+              (at_most (binding_number (active_binding x t.server)) (binding_number b) low))
+          by false at = same (binding_number (active_binding y t.server)) (binding_number (active_binding y v))
+              (ap (λ o. binding_number (binding_of o)) (sym (put_other x y (Words.taken_copy b u) (let s = t.server in s.objects) at)))
+
+      now : HasCopies k v (ls ++ line)
+      now = record {
+        there = λ y c at. by y c at (is_eq (nat_cmp y x)) refl;
+        above = subst (AllByRecursion (IsUnder k v (ls ++ line))) (sym (copies_with k ls e (body.Active k x b)))
+            (all_more (IsUnder k v (ls ++ line)) (copies k ls) _
+            (unders k t.server v ls (ls ++ line) rises (λ y c m. lined_more ls line y c m) (copies k ls) had.above)
+            (λ its. (
+              subst (λ (o : Option Copy). binding_number b ≤ binding_number (binding_of o)) (sym here) (least (binding_number b)),
+              lined_more ls line x b k lined,
+            )));
+      }
+        where
+          least : (n : ℕ) → n ≤ n
+          least n = omega arith
+
+          by : (y : ℕ) (c : Copy) → at_number y v.objects ≡ Some c → (q : Bool) → is_eq (nat_cmp y x) ≡ q →
+              IsLined (ls ++ line) y c.binding k × IsActive (ls ++ line) k y c.binding
+          by y c at true is =
+              let same : Words.taken_copy b u ≡ c = some_is (sym here ∙ ap (λ z. at_number z v.objects) (same_key y x is) ∙ at) in
+              subst (λ (z : Copy). IsLined (ls ++ line) y z.binding k × IsActive (ls ++ line) k y z.binding) same
+              (subst (λ z. IsLined (ls ++ line) z b k × IsActive (ls ++ line) k z b) (same_key y x is)
+              (lined_more ls line x b k lined, active_last ls e k x b))
+          by y c at false is =
+              let r = had.there y c (sym (put_other x y (Words.taken_copy b u) (let s = t.server in s.objects) is) ∙ at) in
+              (lined_more ls line y c.binding k r.0, active_more ls line k y c.binding r.1)
+
+  activate_due : DueBy (Words.served from h (with_server t) Reply.Activated (server.activate k h.path b u t.server))
+  activate_due = by (has_ended h.path t.server) (binding_less b (active_binding x t.server)) refl (binding_eq b (active_binding x t.server))
+    where
+      by : (o l : Bool) → binding_less b (active_binding x t.server) ≡ l → (q : Bool) →
+          DueBy (Words.served from h (with_server t) Reply.Activated
+          (cond {A = Served Server ℕ} (o || l) (void t.server) (cond {A = Served Server ℕ} q (reply t.server (let s = t.server in s.inc))
+          (took_copy k x b u t.server))))
+      by true l less q = tt
+      by false true less q = tt
+      by false false less true = idle_due k (with_server t t.server) st e
+          (Send from (response (asked_by h) (Reply.Activated (let s = t.server in s.inc))) ∷ []) refl ls had
+      by false false less false = took less
+
+-- ---- whole runs
+
+-- what became active under a binding of this number
+abbrev pub active_by : List Line → OfServer
+active_by ls x b s = (c : Binding) × (binding_number c ≡ binding_number b) × IsLined ls x c s × IsActive ls s x c
+
+abbrev is_inactive : Body → Bool
+is_inactive (body.Active n x b) = false
+is_inactive b = true
+
+idle_both : (es : List Effect) → Still es → saying.All is_inactive es → Idle es
+idle_both [] still all = refl
+idle_both (Say b ∷ es) still all =
+    let p = and_parts (is_still b) (list_all says_still es) still in
+    let q = and_parts (is_inactive b) (list_all (saying.says is_inactive) es) all in
+    λ i. one b p.0 q.0 i && idle_both es p.1 q.1 i
+  where
+    one : (b : Body) → is_still b ≡ true → is_inactive b ≡ true → is_idle b ≡ true
+    one (body.Active n x c) still is = absurd (cc is)
+    one (body.Up n j) still is = absurd (cc still)
+    one b still is = refl
+idle_both (Send to m ∷ es) still all = idle_both es still all
+idle_both (Do w ∷ es) still all = idle_both es still all
+
+new_copies : (j i : ℕ) (d : Disk) (st : Start) (ls : List Line) → copies j ls ≡ [] → Copied j (parts_in j i d) st ls
+new_copies j i d st ls none = record {
+  there = λ x c at. none_is at;
+  above = subst (AllByRecursion (IsUnder j (new_server i) ls)) (sym none) tt;
+}
+
+module _ (hd : Header) (H : Seen → Type 0) (known : (k : ℕ) (d : Disk) (M : Seen) → H (down k d M) → KnowsNext (down k d M))
+    (names : (k : ℕ) (d : Disk) (t : Parts) (M : Seen) → H (up k d t M) → Names (up k d t M))
+    (asking : (k : ℕ) (d : Disk) (t : Parts) (M : Seen) → H (up k d t M) → (from : ℕ) (m : Message) →
+    In (record { from = from; to = k; message = m }) M.sent → AskedSo (IsLined M.lines) (active_by M.lines) k (asks m)) where
+  own_copies : (k : ℕ) (d : Disk) (t : Parts) (M : Seen) → Copies (up k d t M) → HasCopies k t.server M.lines
+  own_copies k d t M h = h.1 k (record { number = k; disk = d; live = Some t }) t
+      (λ i. cond (same_number k i) (Some (record { number = k; disk = d; live = Some t })) (M.nodes k)) refl
+
+  message_due : (e k : ℕ) (d : Disk) (t v : Parts) (from : ℕ) (m : Message) (outs : List Effect) (M : Seen) →
+      AskedSo (IsLined M.lines) (active_by M.lines) k (asks m) → HasCopies k t.server M.lines → handle k d t from m ≡ Took v outs →
+      Due k v M.start e outs M.lines
+  message_due e k d t v from m outs M its had is = by (asks m) refl its
+    where
+      others : (o : Option (Head × Ask)) → asks m ≡ o → is_activate o ≡ false → Due k v M.start e outs M.lines
+      others o at off =
+          let s = subst (StaysBy k d t from) (sym (ap (handle_ask k d t from m) at) ∙ is) (message_copies k d t from m o off) in
+          idle_due k v M.start e outs s.1 M.lines (same_copied k t.server v.server M.lines s.0 had)
+
+      by : (o : Option (Head × Ask)) → asks m ≡ o → AskedSo (IsLined M.lines) (active_by M.lines) k o → Due k v M.start e outs M.lines
+      by None at its = others None at refl
+      by (Some (h, ask.Bind x include avoid)) at its = others (Some (h, ask.Bind x include avoid)) at refl
+      by (Some (h, ask.Load x)) at its = others (Some (h, ask.Load x)) at refl
+      by (Some (h, ask.Activate b st)) at its = subst (DueBy k e t M.start from h b st M.lines its had)
+          (sym (ap (handle_ask k d t from m) at) ∙ is)
+          (activate_due k e t M.start from h b st M.lines its had)
+      by (Some (h, ask.Record x b i g)) at its = others (Some (h, ask.Record x b i g)) at refl
+      by (Some (h, ask.Invoke x b i es o)) at its = others (Some (h, ask.Invoke x b i es o)) at refl
+      by (Some (h, ask.Vote i ties es)) at its = others (Some (h, ask.Vote i ties es)) at refl
+      by (Some (h, ask.Prepare states)) at its = others (Some (h, ask.Prepare states)) at refl
+      by (Some (h, ask.Confirm g x i)) at its = others (Some (h, ask.Confirm g x i)) at refl
+
+  restart_due : (e k : ℕ) (d : Disk) (M : Seen) → H (down k d M) → Due k (parts_in k (d.inc + 1) d) M.start e
+      (restart_outs hd k (d.inc + 1) d)
+      M.lines
+  restart_due e k d M h = (
+    tt,
+    idle_due k (parts_in k (d.inc + 1) d) M.start e rest (idle_both rest rest_still rest_inactive) after
+        (new_copies k (d.inc + 1) d M.start after fresh),
+  )
+    where
+      after : List Line
+      after = M.lines ++ numbered e (body.Up k (d.inc + 1) ∷ [])
+
+      rest : List Effect
+      rest = halts.behind hd e k d M (known k d M h).0
+
+      rest_still : Still rest
+      rest_still = halts.behind_still hd e k d M (known k d M h).0
+
+      rest_inactive : saying.All is_inactive rest
+      rest_inactive = saying.restart_says is_inactive hd k (d.inc + 1) d coord_inactive (λ is u o how. refl) (λ u. refl) refl
+        where
+          coord_inactive : (b : Body) → is_coord_line b ≡ true → is_inactive b ≡ true
+          coord_inactive (body.Active n x c) is = absurd (cc is)
+          coord_inactive b is = refl
+
+      fresh : copies k after ≡ []
+      fresh = copies_with k M.lines e (body.Up k (d.inc + 1)) ∙ (λ i. cond (same_number k i) [] (copies k M.lines ++ []))
+
+  pub copies_given : KeepsGiven hd H Copies
+  copies_given = nodes.nodes_keep Copied Anything copied_keeps copied_off anything_stays hd H (λ j t c st ls h. h)
+      (λ e k d t v from m outs M h had there meant is.
+      let n = names k d t M h in
+      let own = n.1 k (record { number = k; disk = d; live = Some t }) t
+      (λ i. cond (same_number k i) (Some (record { number = k; disk = d; live = Some t })) (M.nodes k)) refl in (
+        owns e k d t v from m outs M.start M.lines n.0 own meant is,
+        message_due e k d t v from m outs M (asking k d t M h from m there) (own_copies k d t M had) is,
+      ))
+      (λ e k d M h had. restart_due e k d M h)
+      (λ st formed. (
+        tt,
+        λ j n t there live. subst (λ (z : Parts). Copied j z st []) (first_up hd st j n t there live)
+            (new_copies j (st.incs j + 1) (Rattle.arj_law_runs.proofs.Terms.disk_by hd st j) st [] refl),
+      ))

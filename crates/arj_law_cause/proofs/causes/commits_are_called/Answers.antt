@@ -1,0 +1,5 @@
+use Rattle.arj_law_cause.proofs.kinds.Committing.{committed_run}
+use Rattle.arj_law_cause.proofs.causes.commits_are_called.Goals as goal
+
+pub returns : goal.returns
+returns c = record { committed = committed_run }

@@ -1,0 +1,13 @@
+pub mod Called
+pub mod Conflicts
+pub mod Free
+pub mod Included
+pub mod Joined
+pub mod Labels
+pub mod Plain
+pub mod Reached
+pub mod Refused
+pub mod Replies
+pub mod Runs
+pub mod Says
+pub mod Spans

@@ -1,0 +1,13 @@
+-- What quiesces answer and leave, by the journal: limits (`Limits`), who is up and who waits at nodes as the journal has it (`Ties`), lines
+-- of a quiesce by themselves (`Journals`), each quiesce that nothing cuts short (`Answered`), a run event by event (`Walked`), the
+-- stated round (`Rounds`), that a journal tells how nodes are (`Known`), and what is
+-- asked on one node (`Asking`, `Alone`).
+pub mod Limits
+pub mod Ties
+pub mod Journals
+pub mod Answered
+pub mod Walked
+pub mod Rounds
+pub mod Known
+pub mod Asking
+pub mod Alone

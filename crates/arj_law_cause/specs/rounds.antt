@@ -1,0 +1,4 @@
+pub mod Quiesces
+pub mod Rounds
+pub mod Known
+pub mod Alone
