@@ -64,10 +64,14 @@ abbrev pub is_below : ℕ → Body → Bool
 is_below n (body.GaveUp m k) = nat_lt k n
 is_below n _ = true
 
+-- The action may wait for the node: it asked it, or is its own node, at which a call waits that another call of the object has overtaken.
+abbrev pub may_wait_for : Here → List ℕ → ℕ → Act → Bool
+may_wait_for h l n a = (n == a.uid.node) || was_asked h l n a
+
 -- `gaveup`. The script gives up the action, which waits for that node; the nodes rise.
 abbrev pub gaveup_caused : Here → List ℕ → ℕ → Bool
 gaveup_caused h l n =
-    gives_up l h.event && (holds_of (was_asked h l n) (act_in (acts h.lines) l) && list_all (λ line. is_below n line.body) (of_event h))
+    gives_up l h.event && (holds_of (may_wait_for h l n) (act_in (acts h.lines) l) && list_all (λ line. is_below n line.body) (of_event h))
 
 -- `aborted lost`. The script gives up the action while its commit is under way, as a line of this event says.
 abbrev pub lost_commit_caused : Here → List ℕ → ℕ → Bool
