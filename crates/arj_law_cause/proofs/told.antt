@@ -2,3 +2,4 @@
 pub mod Assembled
 pub mod Joined
 pub mod Telling
+pub mod Together
