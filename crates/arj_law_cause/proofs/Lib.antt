@@ -10,3 +10,4 @@ pub mod forms
 pub mod quiesces
 pub mod bindings
 pub mod confirm
+pub mod votes

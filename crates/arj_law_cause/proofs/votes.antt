@@ -1,0 +1,9 @@
+-- What a top has written, by the journal, where its commit has a changed state of an object.
+--
+-- In the lock machine each write in a copy's log was called, or waits (`Applied`), and what was called and is committed up to its top is a
+-- surviving write by the journal (`Surviving`). So it is of what a server voted, whatever naming has forgotten since (`Voted`), and at each
+-- moment of a run (`Written`).
+pub mod Applied
+pub mod Surviving
+pub mod Voted
+pub mod Written
