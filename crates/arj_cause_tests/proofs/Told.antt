@@ -219,24 +219,30 @@ bare_kept = refl
 bare_other : failing_of is_bare_abort (instead 19 (body.Aborted (l 65) (cause.NoStores 2)) no_store_left) ≡ 19 ∷ []
 bare_other = refl
 
--- `met`: another mode, another holder, another node, no answer, and of an action that has excluded nothing
-met_mode : failing (row is_met_abort) (instead 76 (body.Aborted (l 66) (cause.Conflict (u 2 1 1) Write 1)) aborted_conflict) ≡ 76 ∷ []
+-- `met`: another mode, another holder, the top itself, nobody, another node, no answer, and of an action that has excluded nothing
+met_mode : failing_of is_met_abort (instead 76 (body.Aborted (l 66) (cause.Conflict (u 2 1 1) Write 1)) aborted_conflict) ≡ 76 ∷ []
 met_mode = refl
 
-met_holder : failing (row is_met_abort) (instead 76 (body.Aborted (l 66) (cause.Conflict (u 4 1 1) Exclude 1)) aborted_conflict) ≡ 76 ∷ []
+met_holder : failing_of is_met_abort (instead 76 (body.Aborted (l 66) (cause.Conflict (u 4 1 1) Exclude 1)) aborted_conflict) ≡ 76 ∷ []
 met_holder = refl
 
-met_node : failing (row is_met_abort) (instead 76 (body.Aborted (l 66) (cause.Conflict (u 2 1 1) Exclude 2)) aborted_conflict) ≡ 76 ∷ []
+met_itself : failing_of is_met_abort (instead 76 (body.Aborted (l 66) (cause.Conflict (u 3 1 1) Read 1)) aborted_conflict) ≡ 76 ∷ []
+met_itself = refl
+
+met_nobody : failing_of is_met_abort (instead 76 (body.Aborted (l 66) (cause.Conflict (u 0 0 0) Write 1)) aborted_conflict) ≡ 76 ∷ []
+met_nobody = refl
+
+met_node : failing_of is_met_abort (instead 76 (body.Aborted (l 66) (cause.Conflict (u 2 1 1) Exclude 2)) aborted_conflict) ≡ 76 ∷ []
 met_node = refl
 
-met_silent : failing (row is_met_abort) (instead 73 (body.Sent 25 1 3 frame.Acked) aborted_conflict) ≡ 76 ∷ []
+met_silent : failing_of is_met_abort (instead 73 (body.Sent 25 1 3 frame.Acked) aborted_conflict) ≡ 76 ∷ []
 met_silent = refl
 
-met_nothing : failing (row is_met_abort) (without 67 aborted_conflict) ≡ 75 ∷ []
+met_nothing : failing_of is_met_abort (without 67 aborted_conflict) ≡ 75 ∷ []
 met_nothing = refl
 
 -- by its own run it is so
-met_so : failing (row is_met_abort) aborted_conflict ≡ []
+met_so : failing_of is_met_abort aborted_conflict ≡ []
 met_so = refl
 
 -- `found`: in no restart

@@ -105,13 +105,13 @@ pub fn lost_commits_have_causes()
 
 /// In every such run a commit that is under way is aborted for a store that is listed where the action includes the store, doesn't exclude
 /// it, and it was listed by the journal at the place of the commit's span at which naming answered; and for want of stores where the action
-/// excludes each store that was listed there, of which there were some, and each that it includes; and for a conflict, where it names another
-/// action than the top itself, where the top met this row there, as the first one against the exclude lock, on the entry of an object from
-/// which the action excludes a store. It does nothing when it runs.
+/// excludes each store that was listed there, of which there were some, and each that it includes; and for a conflict where the top met this
+/// row there, as the first one against the exclude lock, on the entry of an object from which the action excludes a store. It does nothing
+/// when it runs.
 pub fn refused_commits_have_causes()
     ensures listed { RowHolds is_listed_abort }
     ensures bare { RowHolds is_bare_abort }
-    ensures met { RowHoldsWhere is_met_abort }
+    ensures met { RowHolds is_met_abort }
 {}
 
 /// In every such run something is prepared, at a store or at naming, for an action that began and whose commit was called; and at naming,

@@ -11,7 +11,7 @@ use Words.{is_wanted}
 use Words.{lock_all, marked, other_grant, prepared_by, refused_exclude, same_nodes, stores_after, without_stores, wanted, wants_lock, Pair}
 use Words.{Prep, Ready}
 use Words.{Already, Old, InDoubt, Did, Served, held_at, holder_of, is_prepared, prepare_answer, first_refusal, refusal_in, refusal_of}
-use Words.{is_old}
+use Words.{by_holder, is_old, uid_is}
 use Words.{reply, void, Naming, is_over, at_number, state_entry, uid_eq, with_stores, listed_entry}
 use Words.confirmed
 use Words.mode
@@ -91,6 +91,26 @@ changed_by y excluded included e off = by (marked y included) refl
         ∙ (λ i. same_nodes (with_stores (sym is i) (without_stores (marked y excluded) e.stores)) e.stores) ∙ off)))
         (out_or_same (marked y excluded) e.stores)
 
+-- ---- why a state is refused
+
+-- another action has prepared the object, or who wrote the committed state is this one, or the new state is too old for it
+abbrev pub Hinders : Uid → ObjectState → Option ObjectState → Option Uid → Type 0
+Hinders u s None h = is_some h ≡ true
+Hinders u s (Some held) h = (is_some h ≡ true) ⊎ ((held.writer ≡ u) ⊎ (is_old s held ≡ true))
+
+hinders : (u : Uid) (s : ObjectState) (o : Option ObjectState) (h : Option Uid) (a : Prep) → refusal_of u s o h ≡ Some a → Hinders u s o h
+hinders u s None None a is = absurd (cc is)
+hinders u s None (Some v) a is = refl
+hinders u s (Some held) h a is = by (uid_eq held.writer u) refl (is_old s held) refl h is
+  where
+    by : (x : Bool) → uid_eq held.writer u ≡ x → (y : Bool) → is_old s held ≡ y → (o : Option Uid) →
+        (if x then Some (Already s.uid) else (if y then Some (Old s.uid held.version) else by_holder s o)) ≡ Some a →
+        (is_some o ≡ true) ⊎ ((held.writer ≡ u) ⊎ (is_old s held ≡ true))
+    by true own y f o e = inr (inl (uid_is held.writer u own))
+    by false own true f o e = inr (inr f)
+    by false own false f None e = absurd (cc e)
+    by false own false f (Some v) e = inl refl
+
 module _ (p : Path) (grants : Grants) (excluded included : Marks) (d : Pair) (n : Naming) where
   -- Naming checked the Confirm anew; an exclude lock that it wants meets this row, of this holder in this mode, and nothing is done.
   pub record IsMet (u : Uid) (m : Mode) : Type 0 where
@@ -104,8 +124,9 @@ module _ (p : Path) (grants : Grants) (excluded included : Marks) (d : Pair) (n 
     pub silent : (confirm p grants excluded included d n).outs ≡ []
     pub part : (confirm p grants excluded included d n).part ≡ n
 
-  -- It passed all checks, and a new entry is of an object of which another action has prepared one.
-  pub record IsDoubted : Type 0 where
+  -- It passed all checks, and an entry that changes is refused for what stands of it: another action has prepared one, or who wrote the one
+  -- that stands is the top itself, or the new one is too old for it.
+  pub record IsHindered : Type 0 where
     pub untold : is_over p n ≡ false
     pub named : has_all grants n ≡ true
     pub unconfirmed : is_on n.confirmed (top_of p) ≡ false
@@ -116,41 +137,33 @@ module _ (p : Path) (grants : Grants) (excluded included : Marks) (d : Pair) (n 
     pub old : ObjectState
     pub held : held_at (entry (let g = grant in g.0)) d ≡ Some old
     pub other : same_nodes (stores_after (let g = grant in g.0) excluded included (state_entry old)) (state_entry old).stores ≡ false
-    pub doubted : is_some (holder_of (entry (let g = grant in g.0)) d) ≡ true
+    pub refused : Hinders (top_of p)
+        (entry_state (let g = grant in g.0) (top_of p) old (stores_after (let g = grant in g.0) excluded included (state_entry old)))
+        (Some old) (holder_of (entry (let g = grant in g.0)) d)
 
   abbrev Answer_by : Bool → Bool → Bool → Bool → Option ConfirmedReply → Served Naming ConfirmedReply
   Answer_by over all on pre o = if over || not all then void n
       else (if on || pre then reply (confirms (top_of p) n) confirmed.Yes else confirm_new p grants excluded included d n o)
 
-  -- ---- a state in doubt
+  -- ---- a state that is refused
 
-  doubt_of : (s : ObjectState) (w holder : Uid) (o : Option ObjectState) (h : Option Uid) →
-      refusal_of (top_of p) s o h ≡ Some (InDoubt w holder) → is_some h ≡ true
-  doubt_of s w holder None None is = absurd (cc is)
-  doubt_of s w holder o (Some v) is = refl
-  doubt_of s w holder (Some held) None is = absurd (by (uid_eq held.writer (top_of p)) (is_old s held) is)
+  hindered_in : (a : Prep) (ss : List ObjectState) → first_refusal (top_of p) d ss ≡ Some a →
+      (s : ObjectState) × In s ss × Hinders (top_of p) s (held_at s.uid d) (holder_of s.uid d)
+  hindered_in a [] is = absurd (cc is)
+  hindered_in a (s ∷ ss) is = by (refusal_in (top_of p) d s) refl is (λ more. hindered_in a ss more)
     where
-      by : (a b : Bool) → (if a then Some (Already s.uid) else (if b then Some (Old s.uid held.version) else None))
-          ≡ Some (InDoubt w holder) → ⊥
-      by true b h = cc h
-      by false true h = cc h
-      by false false h = cc h
-
-  doubted_in : (w holder : Uid) (ss : List ObjectState) → first_refusal (top_of p) d ss ≡ Some (InDoubt w holder) →
-      (s : ObjectState) × In s ss × (is_some (holder_of s.uid d) ≡ true)
-  doubted_in w holder [] is = absurd (cc is)
-  doubted_in w holder (s ∷ ss) is = by (refusal_in (top_of p) d s) refl is (λ more. doubted_in w holder ss more)
-    where
-      by : (o : Option Prep) → refusal_in (top_of p) d s ≡ o → either o (first_refusal (top_of p) d ss) ≡ Some (InDoubt w holder) →
-          (first_refusal (top_of p) d ss ≡ Some (InDoubt w holder) → (q : ObjectState) × In q ss × (is_some (holder_of q.uid d) ≡ true)) →
-          (q : ObjectState) × In q (s ∷ ss) × (is_some (holder_of q.uid d) ≡ true)
+      by : (o : Option Prep) → refusal_in (top_of p) d s ≡ o → either o (first_refusal (top_of p) d ss) ≡ Some a →
+          (first_refusal (top_of p) d ss ≡ Some a →
+          (q : ObjectState) × In q ss × Hinders (top_of p) q (held_at q.uid d) (holder_of q.uid d)) →
+          (q : ObjectState) × In q (s ∷ ss) × Hinders (top_of p) q (held_at q.uid d) (holder_of q.uid d)
       by None e h ih = let z = ih h in (z.0, inr z.1, z.2)
-      by (Some a) e h ih = (s, inl refl, doubt_of s w holder (held_at s.uid d) (holder_of s.uid d) (e ∙ h))
+      by (Some b) e h ih = (s, inl refl, hinders (top_of p) s (held_at s.uid d) (holder_of s.uid d) b e)
 
   -- what a new entry is made of
   abbrev IsMadeOf : ℕ → Option ObjectState → ObjectState → Type 0
   IsMadeOf y o st = (old : ObjectState) × (o ≡ Some old)
-      × (same_nodes (stores_after y excluded included (state_entry old)) (state_entry old).stores ≡ false) × (st.uid ≡ entry y)
+      × (same_nodes (stores_after y excluded included (state_entry old)) (state_entry old).stores ≡ false)
+      × (entry_state y (top_of p) old (stores_after y excluded included (state_entry old)) ≡ st)
 
   made_of : (y : ℕ) (o : Option ObjectState) (st : ObjectState) → entry_after (top_of p) excluded included y o ≡ Some st → IsMadeOf y o st
   made_of y None st h = absurd (cc h)
@@ -161,7 +174,7 @@ module _ (p : Path) (grants : Grants) (excluded included : Marks) (d : Pair) (n 
           IsMadeOf y (Some old) st
       by true is e = absurd (cc e)
       by false is e = let same : entry_state y (top_of p) old (stores_after y excluded included (state_entry old)) ≡ st = some_is e in
-          (old, refl, is, ap (λ (q : ObjectState). q.uid) (sym same))
+          (old, refl, is, same)
 
   made_in : (f : ℕ → Option ObjectState) (gs : Grants) (st : ObjectState) → In st (filter_map (λ (g : ℕ × ℕ). f g.0) gs) →
       (g : ℕ × ℕ) × In g gs × (f g.0 ≡ Some st)
@@ -177,9 +190,9 @@ module _ (p : Path) (grants : Grants) (excluded included : Marks) (d : Pair) (n 
 
   -- ---- the answer
 
-  -- it met a row, or a new entry was in doubt; or it names the top itself, or nobody
+  -- it met a row, or an entry that changes was refused
   abbrev pub Meets : Uid → Mode → Type 0
-  Meets u m = IsMet u m ⊎ (IsDoubted ⊎ ((u ≡ top_of p) ⊎ (u ≡ nobody)))
+  Meets u m = IsMet u m ⊎ IsHindered
 
   module _ (u : Uid) (m : Mode) where
     abbrev R : ConfirmedReply
@@ -257,60 +270,60 @@ module _ (p : Path) (grants : Grants) (excluded included : Marks) (d : Pair) (n 
         one (Some q) at e = let z = first_met (other_grant n) grants R (at ∙ e) in absurd (other_not z.0 z.2)
         one None at e = two (first_of_each (refused_exclude p n) (wanted (top_of p) grants excluded d)) refl e
 
-    conflict_is : (v : Uid) (k : Mode) → ◌≡◌ {A = Option ConfirmedReply} (Some (confirmed.Conflict v k)) (Some R) → u ≡ v
-    conflict_is v k e = sym (ap holder_in (some_is e))
+    module _ (untold : is_over p n ≡ false) (named : has_all grants n ≡ true) (fresh : is_on n.confirmed (top_of p) ≡ false)
+        (free : checked p grants excluded included d n ≡ None) where
+      abbrev Behind : Option ConfirmedReply
+      Behind = either (first_of_each (is_there d) included) (first_of_each is_bare (entries_after (top_of p) grants excluded included d))
 
-    prepared_met : (untold : is_over p n ≡ false) → has_all grants n ≡ true → is_on n.confirmed (top_of p) ≡ false →
-        checked p grants excluded included d n ≡ None → (t : Did Naming) (states : List ObjectState) →
-        states ≡ entries_after (top_of p) grants excluded included d → (a : Prep) → prepare_answer (top_of p) states d ≡ a →
-        (prepared_by (top_of p) states t a).reply ≡ Some R → IsDoubted ⊎ ((u ≡ top_of p) ⊎ (u ≡ nobody))
-    prepared_met untold named fresh free t states are Ready is h = absurd (cc h)
-    prepared_met untold named fresh free t states are (Already w) is h = inr (inl (conflict_is (top_of p) mode.Write h))
-    prepared_met untold named fresh free t states are (Old w v) is h = inr (inr (conflict_is nobody mode.Write h))
-    prepared_met untold named fresh free t states are (InDoubt w holder) is h = inl (record {
-      untold = untold;
-      named = named;
-      unconfirmed = fresh;
-      own = one.0;
-      locks = (both_none (first_of_each (refused_exclude p n) (wanted (top_of p) grants excluded d)) Behind one.1).0;
-      grant = g.0;
-      there = g.1;
-      old = e.0;
-      held = e.1;
-      other = e.2;
-      doubted = ap (λ x. is_some (holder_of x d)) (sym e.3) ∙ s.2;
-    })
-      where
-        refused_first : (o : Option Prep) → unwrap_or o Ready ≡ InDoubt w holder → o ≡ Some (InDoubt w holder)
-        refused_first None e = absurd (cc e)
-        refused_first (Some b) e = ap Some e
+      one : (first_of_each (other_grant n) grants ≡ None) × (either (first_of_each (refused_exclude p n)
+          (wanted (top_of p) grants excluded d)) (either (first_of_each (is_there d) included)
+          (first_of_each is_bare (entries_after (top_of p) grants excluded included d))) ≡ None)
+      one = both_none (first_of_each (other_grant n) grants) (either (first_of_each (refused_exclude p n)
+          (wanted (top_of p) grants excluded d)) (either (first_of_each (is_there d) included)
+          (first_of_each is_bare (entries_after (top_of p) grants excluded included d)))) free
 
-        s : (q : ObjectState) × In q states × (is_some (holder_of q.uid d) ≡ true)
-        s = doubted_in w holder states (refused_first (first_refusal (top_of p) d states) is)
+      refused_first : (a : Prep) → (Ready ≡ a → ⊥) → (o : Option Prep) → unwrap_or o Ready ≡ a → o ≡ Some a
+      refused_first a off None e = absurd (off e)
+      refused_first a off (Some b) e = ap Some e
 
-        g : (k : ℕ × ℕ) × In k grants × (entry_after (top_of p) excluded included k.0 (held_at (entry k.0) d) ≡ Some s.0)
-        g = made_in (λ y. entry_after (top_of p) excluded included y (held_at (entry y) d)) grants s.0 (subst (In s.0) are s.1)
+      hindered : (a : Prep) → (Ready ≡ a → ⊥) → prepare_answer (top_of p) (entries_after (top_of p) grants excluded included d) d ≡ a →
+          IsHindered
+      hindered a off is = by (hindered_in a (entries_after (top_of p) grants excluded included d) (refused_first a off
+          (first_refusal (top_of p) d (entries_after (top_of p) grants excluded included d)) is))
+        where
+          by : (s : ObjectState) × In s (entries_after (top_of p) grants excluded included d)
+              × Hinders (top_of p) s (held_at s.uid d) (holder_of s.uid d) → IsHindered
+          by s =
+              let g = made_in (λ y. entry_after (top_of p) excluded included y (held_at (entry y) d)) grants s.0 s.1 in
+              let e = made_of g.0.0 (held_at (entry g.0.0) d) s.0 g.2 in
+              record {
+                untold = untold;
+                named = named;
+                unconfirmed = fresh;
+                own = one.0;
+                locks = (both_none (first_of_each (refused_exclude p n) (wanted (top_of p) grants excluded d)) Behind one.1).0;
+                grant = g.0;
+                there = g.1;
+                old = e.0;
+                held = e.1;
+                other = e.2;
+                refused = subst (λ o. Hinders (top_of p) (entry_state g.0.0 (top_of p) e.0 (stores_after g.0.0 excluded included
+                    (state_entry e.0))) o (holder_of (entry g.0.0) d)) e.1
+                    (subst (λ (q : ObjectState). Hinders (top_of p) q (held_at q.uid d) (holder_of q.uid d)) (sym e.3) s.2);
+              }
 
-        e : IsMadeOf g.0.0 (held_at (entry g.0.0) d) s.0
-        e = made_of g.0.0 (held_at (entry g.0.0) d) s.0 g.2
+      answered : (t : Did Naming) (states : List ObjectState) → states ≡ entries_after (top_of p) grants excluded included d → (a : Prep) →
+          prepare_answer (top_of p) states d ≡ a → (prepared_by (top_of p) states t a).reply ≡ Some R → IsHindered
+      answered t states are Ready is h = absurd (cc h)
+      answered t states are (Already w) is h = hindered (Already w) (λ e. cc e) (ap (λ ss. prepare_answer (top_of p) ss d) (sym are) ∙ is)
+      answered t states are (Old w v) is h = hindered (Old w v) (λ e. cc e) (ap (λ ss. prepare_answer (top_of p) ss d) (sym are) ∙ is)
+      answered t states are (InDoubt w v) is h =
+          hindered (InDoubt w v) (λ e. cc e) (ap (λ ss. prepare_answer (top_of p) ss d) (sym are) ∙ is)
 
-        Behind : Option ConfirmedReply
-        Behind = either (first_of_each (is_there d) included) (first_of_each is_bare (entries_after (top_of p) grants excluded included d))
-
-        one : (first_of_each (other_grant n) grants ≡ None) × (either (first_of_each (refused_exclude p n)
-            (wanted (top_of p) grants excluded d)) (either (first_of_each (is_there d) included)
-            (first_of_each is_bare (entries_after (top_of p) grants excluded included d))) ≡ None)
-        one = both_none (first_of_each (other_grant n) grants) (either (first_of_each (refused_exclude p n)
-            (wanted (top_of p) grants excluded d)) (either (first_of_each (is_there d) included)
-            (first_of_each is_bare (entries_after (top_of p) grants excluded included d)))) free
-
-    entered_met : (untold : is_over p n ≡ false) → has_all grants n ≡ true → is_on n.confirmed (top_of p) ≡ false →
-        checked p grants excluded included d n ≡ None → (t : Did Naming) (states : List ObjectState) →
-        states ≡ entries_after (top_of p) grants excluded included d → (confirm_entries (top_of p) states d t).reply ≡ Some R →
-        IsDoubted ⊎ ((u ≡ top_of p) ⊎ (u ≡ nobody))
-    entered_met untold named fresh free t [] are h = absurd (cc h)
-    entered_met untold named fresh free t (s ∷ ss) are h =
-        prepared_met untold named fresh free t (s ∷ ss) are (prepare_answer (top_of p) (s ∷ ss) d) refl h
+      entered_met : (t : Did Naming) (states : List ObjectState) → states ≡ entries_after (top_of p) grants excluded included d →
+          (confirm_entries (top_of p) states d t).reply ≡ Some R → IsHindered
+      entered_met t [] are h = absurd (cc h)
+      entered_met t (s ∷ ss) are h = answered t (s ∷ ss) are (prepare_answer (top_of p) (s ∷ ss) d) refl h
 
     pub conflicts : (confirm p grants excluded included d n).reply ≡ Some R → Meets u m
     conflicts = by (is_over p n) refl (has_all grants n) refl (is_on n.confirmed (top_of p)) refl (is_prepared (top_of p) d)

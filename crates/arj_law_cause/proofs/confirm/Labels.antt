@@ -50,32 +50,35 @@ acts_stay labels B (line ∷ more) right stand given = by line.body right.0 (act
     by b its now rest = rest stand
 
 -- what is seen later, with no label more
-record Since (M N : Seen) : Type 0 where
-  labels : N.labels ≡ M.labels
-  more : List Line
-  lines : N.lines ≡ M.lines ++ more
+pub record Since (M N : Seen) : Type 0 where
+  pub labels : N.labels ≡ M.labels
+  pub start : N.start ≡ M.start
+  pub more : List Line
+  pub lines : N.lines ≡ M.lines ++ more
 
-since_more : (M N : Seen) (bs : List Line) (Z : Seen) → Z.labels ≡ N.labels → Z.lines ≡ N.lines ++ bs → Since M N → Since M Z
-since_more M N bs Z labels lines s = record {
+pub since_more : (M N : Seen) (bs : List Line) (Z : Seen) → Z.labels ≡ N.labels → Z.start ≡ N.start → Z.lines ≡ N.lines ++ bs → Since M N →
+    Since M Z
+since_more M N bs Z labels start lines s = record {
   labels = labels ∙ s.labels;
+  start = start ∙ s.start;
   more = s.more ++ bs;
   lines = lines ∙ ap (λ ls. ls ++ bs) s.lines ∙ append_assoc M.lines s.more bs;
 }
 
-since_way : (M : Seen) (e k : ℕ) (es : List Effect) (v : Parts) (d : Disk) (N Z : Seen) → Since M N → OnWay e k es v d N Z → Since M Z
-since_way M e k [] v d N Z s way = subst (Since M) way (record { labels = s.labels; more = s.more; lines = s.lines })
+pub since_way : (M : Seen) (e k : ℕ) (es : List Effect) (v : Parts) (d : Disk) (N Z : Seen) → Since M N → OnWay e k es v d N Z → Since M Z
+since_way M e k [] v d N Z s way = subst (Since M) way (record { labels = s.labels; start = s.start; more = s.more; lines = s.lines })
 since_way M e k (Do w ∷ es) v d N Z s (inl stop) =
-    subst (Since M) stop.1 (since_more M N (numbered e (body.Halted k ∷ [])) _ refl refl s)
+    subst (Since M) stop.1 (since_more M N (numbered e (body.Halted k ∷ [])) _ refl refl refl s)
 since_way M e k (Do w ∷ es) v d N Z s (inr way) = since_way M e k es v (worked w d) N Z s way
 since_way M e k (Say b ∷ es) v d N Z s way =
-    since_way M e k es v d (said e (b ∷ []) N) Z (since_more M N (numbered e (b ∷ [])) (said e (b ∷ []) N) refl refl s) way
+    since_way M e k es v d (said e (b ∷ []) N) Z (since_more M N (numbered e (b ∷ [])) (said e (b ∷ []) N) refl refl refl s) way
 since_way M e k (Send to m ∷ es) v d N Z s way =
-    since_way M e k es v d _ Z (since_more M N (numbered e way.0) _ refl refl s) way.2
+    since_way M e k es v d _ Z (since_more M N (numbered e way.0) _ refl refl refl s) way.2
 
-first_since : (M N : Seen) → N.labels ≡ M.labels → N.lines ≡ M.lines → Since M N
-first_since M N labels lines = record { labels = labels; more = []; lines = lines ∙ sym (append-nil M.lines) }
+pub first_since : (M N : Seen) → N.labels ≡ M.labels → N.start ≡ M.start → N.lines ≡ M.lines → Since M N
+first_since M N labels start lines = record { labels = labels; start = start; more = []; lines = lines ∙ sym (append-nil M.lines) }
 
-same_acts : (M N : Seen) → IsWritten M → IsWritten N → Since M N → acts N.lines ≡ acts M.lines
+pub same_acts : (M N : Seen) → IsWritten M → IsWritten N → Since M N → acts N.lines ≡ acts M.lines
 same_acts M N w v s =
     let there : book N.lines ≡ book_from (book M.lines) s.more = ap book s.lines ∙ book_more new_book M.lines s.more in
     sym (its_acts N.lines v.right) ∙ ap (λ (B : Book). B.acts) there
@@ -91,7 +94,7 @@ abbrev pub AsMany : Seen → Type 0
 AsMany S = length S.labels ≡ length (acts S.lines)
 
 module _ (hd : Header) where
-  written : (S : Seen) → Reached hd S → IsWritten S
+  pub written : (S : Seen) → Reached hd S → IsWritten S
   written S r = (reached_has hd IsKept (keeps_asked hd IsKept (lines_keep hd)) S r).1
 
   stays : (M N : Seen) → Reached hd M → Reached hd N → Since M N → AsMany M → AsMany N
@@ -107,17 +110,17 @@ module _ (hd : Header) where
   pub as_many : (S : Seen) → Reached hd S → AsMany S
   as_many S (AtFirst st formed) = refl
   as_many S (ByLines e bs L quiet r) = stays L S r (ByLines e bs L quiet r)
-      (since_more L L (numbered e bs) S refl refl (first_since L L refl refl)) (as_many L r)
+      (since_more L L (numbered e bs) S refl refl refl (first_since L L refl refl refl)) (as_many L r)
   as_many S (ByStop e k d live L r) = stays (at k d live L) S r (ByStop e k d live L r)
-      (since_more (at k d live L) L (numbered e (body.Halted k ∷ [])) S refl refl (first_since (at k d live L) L refl refl))
+      (since_more (at k d live L) L (numbered e (body.Halted k ∷ [])) S refl refl refl (first_since (at k d live L) L refl refl refl))
       (as_many (at k d live L) r)
   as_many S (ByMessage e k d t v from m outs L N r there meant is way) =
       stays (up k d t L) S r (ByMessage e k d t v from m outs L N r there meant is way)
-      (since_way (up k d t L) e k outs v d L S (first_since (up k d t L) L refl refl) way) (as_many (up k d t L) r)
+      (since_way (up k d t L) e k outs v d L S (first_since (up k d t L) L refl refl refl) way) (as_many (up k d t L) r)
   as_many S (ByAct e k d t i L N r is asks free way) =
       let did = does i d.intents t.coord in
       stays (up k d t L) S r (ByAct e k d t i L N r is asks free way)
-      (since_way (up k d t L) e k did.outs (with_coord t did.part) d L S (first_since (up k d t L) L refl refl) way) (as_many
+      (since_way (up k d t L) e k did.outs (with_coord t did.part) d L S (first_since (up k d t L) L refl refl refl) way) (as_many
       (up k d t L) r)
   as_many S (ByBegin e k d t l how parent L N r new may none way) =
       let did = begin_action l how parent (parent_of parent t.coord) t.coord in
@@ -128,11 +131,11 @@ module _ (hd : Header) where
       stays (up k d t L) S r (ByTick e k d t L N r way)
       (since_way (up k d t L) e k (tick_outs (record { number = k; disk = d; live = Some t }) t)
       (with_coord t (let z = again_all t.coord.doings t.coord in z.part)) d L S
-      (first_since (up k d t L) L refl refl) way) (as_many (up k d t L) r)
+      (first_since (up k d t L) L refl refl refl) way) (as_many (up k d t L) r)
   as_many S (ByRestart e k d L N r way) =
       stays (down k d L) S r (ByRestart e k d L N r way)
       (since_way (down k d L) e k (restart_outs hd k (d.inc + 1) d) (parts_in k (d.inc + 1) d) d L S
-      (first_since (down k d L) L refl refl) way) (as_many (down k d L) r)
+      (first_since (down k d L) L refl refl refl) way) (as_many (down k d L) r)
 
 -- ---- worlds
 

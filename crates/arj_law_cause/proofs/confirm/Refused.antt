@@ -2,11 +2,11 @@
 use Rattle.arj_law_parts.proofs.Words
 use Words.{⊤, ◌≡◌, ◌≤◌, ◌∙◌, ◌==◌, ◌&&◌, not, ℕ, Bool, true, false, if◌then◌else◌, List, [], ◌∷◌, length, map, Some}
 use Words.{refl, sym, ap, subst, inl, inr, ⊎_elim, is_some, list_all, and_parts, eqb-true, AllByRecursion, In, Asked}
-use Words.{ConfirmedReply, Mode, cond, entry, in_from, take, top_path, tops_of, uid_eq, uid_same, uids_of}
+use Words.{ConfirmedReply, Mode, cond, entry, in_from, take, top_path, tops_of, uids_of}
 use Words.{Header, Line, Message, Reply, Uid, actor, answers, is_listed, name, marked, Confirming}
 use Words.{Plan, Used, confirm_ask, included_of, is_marked, waits_for_commit, Committing, Doing, doing_of, Disk, Parts, Node, Seen}
-use Words.{is_own, filter, last_uid, list_any, nobody}
-use Words.{is_committing_now, has, Body, ask_kind, reply_kind, Label}
+use Words.{is_own, filter, last_uid, list_any, is_on, top_of, Option, None, Kind, End, ◌||◌}
+use Words.{is_committing_now, is_waiting_now, has, Body, ask_kind, reply_kind, Label}
 use Words.body
 use Words.cause
 use Words.confirmed
@@ -28,7 +28,13 @@ use Rattle.arj_law_promise.proofs.meant.Requests.{meant_keep}
 use Rattle.arj_law_promise.specs.meant.Meant.{AskFits, MeantAreKnown}
 use Rattle.arj_law_runs.proofs.follow.Halts.{KnowsAll, halts_keep}
 use Rattle.arj_law_runs.proofs.journal.{Models.its_acts, Models.its_sound}
-use Rattle.arj_law_runs.specs.journal.Book.{book, new_book}
+use Rattle.arj_law_runs.proofs.journal.Closed.{stands_lines, stands_new}
+use Rattle.arj_law_runs.specs.journal.Book.{Book, book, is_decided, is_top, new_book}
+use Rattle.arj_law_runs.specs.journal.Knows.{IsEnd}
+use Rattle.arj_law_serial.proofs.order.Order.{own as own_top}
+use Rattle.arj_law_cause.proofs.rows.Paths.{uid_of_top}
+use Rattle.arj_law_cause.proofs.confirm.{Called.called_more, Entries.decided_more}
+use Rattle.arj_model.specs.Actions.{top_in}
 use Rattle.arj_law_runs.specs.journal.Right.{AreRight}
 use Rattle.arj_law_serial.proofs.Terms.{IsKept, MarksAreSaid, kept_both, lines_keep, was_marked}
 use Rattle.arj_law_serial.proofs.joint.{Clean.object_some, JoinModel.joined, Leaving.left, MarkRuns.marks_given, MarkRuns.own_doing}
@@ -45,7 +51,6 @@ use Rattle.arj_law_cause.proofs.confirm.{Says.confirms_so, Says.refuses}
 use Rattle.arj_law_cause.proofs.confirm.{Says.says_of, Spans.commits_at, Spans.place}
 use Rattle.arj_law_cause.proofs.rows.Paths.{label_path}
 use Rattle.arj_law_cause.proofs.rows.Spans.{answered_at}
-use Rattle.arj_law_cause.specs.kinds.Kinds.{is_met_abort}
 use Rattle.arj_law_parts.specs.parts.Messages.{FitsAsk, FitsAsked, IsAsker}
 use Rattle.arj_law_serial.proofs.Terms.{AreAlike, AreDistinct, act_of, path, path_by, uids}
 use Rattle.arj_law_serial.proofs.holding.{Running.Showing, Running.alike_of}
@@ -99,6 +104,15 @@ excluded_any g id y s (e ∷ es) so is = by ((e.it.top == id) && (e.it.x == y)) 
     by false at on ih = or_right ((e.it.top == id) && g e.it.x) (list_any (λ (f : Placed Exclusion). (f.it.top == id) && g f.it.x) es)
         (ih on)
 
+-- an action that has no end, and that no restart has found, isn't decided
+undecided_so : (B : Book) (u : Uid) (k : Kind) (o : Option End) → is_some o ≡ false → IsEnd B u k o → is_decided B u ≡ false
+undecided_so B u k (Some e) none is = absurd (cc none)
+undecided_so B u k None none is = (λ i. front (is_on B.committed u) (is_on B.aborted u || is_on B.ended u) is.0 i || is.1 i)
+  where
+    front : (x y : Bool) → (x || y) ≡ false → x ≡ false
+    front true y e = absurd (cc e)
+    front false y e = refl
+
 -- ---- what a line says
 
 -- where naming refused a commit the line has its cause, by these lines before it, as long as they are early
@@ -108,8 +122,7 @@ Fits hd lines (body.Aborted l (cause.Listed y s)) =
 Fits hd lines (body.Aborted l (cause.NoStores y)) =
     IsEarly lines → (h : Here) → h.header ≡ hd → h.lines ≡ lines → leaves_none h (name l) y ≡ true
 Fits hd lines (body.Aborted l (cause.Conflict u m n)) =
-    IsEarly lines → (h : Here) → h.header ≡ hd → h.lines ≡ lines → is_met_abort h (body.Aborted l (cause.Conflict u m n)) ≡ true →
-    confirm_meets h (name l) u m n ≡ true
+    IsEarly lines → (h : Here) → h.header ≡ hd → h.lines ≡ lines → confirm_meets h (name l) u m n ≡ true
 Fits hd lines b = ⊤
 
 -- ---- at the coordinator
@@ -253,8 +266,28 @@ module _ (hd : Header) (form : HeaderInForm hd) (before : List Line) (event : �
       ap uids same ∙ (let z = f.actor_is in z.path_is) in
       (λ i. take (tops i) (its i)) ∙ ap top_path a.2
 
-  off : (u v : Uid) → u ≡ v → not (uid_eq u v) ≡ true → ⊥
-  off u v same other = let no_way : false ≡ true = sym (ap not (ap (λ z. uid_eq z v) same ∙ uid_same v)) ∙ other in cc no_way
+  -- it is a top, and is the one of its path
+  asks_top : actor (let h = ans.0 in h.path) ≡ top_of (let h = ans.0 in h.path)
+  asks_top =
+      let b = (let s = stands in s.act) in
+      let began : In b (acts M.seen.lines) = (let s = stands in s.began) in
+      let on : is_on (let B = book M.seen.lines in B.called) b.uid ≡ true =
+      (let z = ans.3 in subst (λ ls. is_called ls b.uid) (sym z.made.are) (called_more z.made.before z.made.after b.uid called)) in
+      let kind : is_top b.kind ≡ true = (let s = stands_lines new_book M.seen.lines right stands_new in
+      let c = s.closes in c.calls b (subst (In b) (sym (its_acts M.seen.lines right)) began) on) in
+      let its : top_in (path (acts M.seen.lines) (name w.label)) ≡ Some b =
+      ap (λ l. top_in (path (acts M.seen.lines) l)) (sym (let s = stands in s.label)) ∙ own_top M.seen.lines right b began kind in
+      asker ∙ sym its_uid ∙ uid_of_top (path (acts M.seen.lines) (name w.label)) b its ∙ ap last_uid tops_same
+
+  -- and its outcome is open
+  undecided : is_decided (book M.seen.lines) a.act ≡ false
+  undecided =
+      let u = acting.up Z all k (record { number = k; disk = d; live = Some t }) t here refl in
+      let s = stands in
+      let known = u.knows.acts a.act s.branch w s.found found in
+      undecided_so (book M.seen.lines) a.act (let b = s.branch in b.kind) (let b = s.branch in b.ended)
+      (acting.open_waits Z all k (record { number = k; disk = d; live = Some t }) t here refl a.act w found (ap is_waiting_now now)
+      s.branch s.found) known.end
 
   -- ---- the row, where the line comes
 
@@ -324,20 +357,18 @@ module _ (hd : Header) (form : HeaderInForm hd) (before : List Line) (event : �
 
     conflict_row : (u : Uid) (m : Mode) → refuses hd ans.0 p.excluded (included_of p) (confirmed.Conflict u m)
         (let z = ans.3 in z.made.before) →
-        IsEarly M.seen.lines →
-        is_met_abort (record h { header = hd; lines = M.seen.lines }) (body.Aborted w.label (cause.Conflict u m 1)) ≡ true →
-        confirm_meets (record h { header = hd; lines = M.seen.lines }) (name w.label) u m 1 ≡ true
-    conflict_row u m says early other = by (says (early_place early))
+        IsEarly M.seen.lines → confirm_meets (record h { header = hd; lines = M.seen.lines }) (name w.label) u m 1 ≡ true
+    conflict_row u m says early = by (says (early_place early))
       where
-        parts : (not (uid_eq u nobody) ≡ true) × (not (uid_eq u (last_uid (top_uids (path (acts M.seen.lines) (name w.label))))) ≡ true)
-        parts = and_parts (not (uid_eq u nobody)) (not (uid_eq u (last_uid (top_uids (path (acts M.seen.lines) (name w.label)))))) other
-
         by : MeetsRow ans.0 p.excluded u m (let z = ans.3 in z.made.before) →
             confirm_meets (record h { header = hd; lines = M.seen.lines }) (name w.label) u m 1 ≡ true
-        by (inl top) = absurd (off u (last_uid (top_uids (path (acts M.seen.lines) (name w.label)))) (top ∙ ap last_uid (sym tops_same))
-            parts.1)
-        by (inr (inl none)) = absurd (off u nobody none parts.0)
-        by (inr (inr met)) =
+        by (inl over) =
+            let z = ans.3 in
+            let on : is_decided (book M.seen.lines) a.act ≡ true =
+            subst (λ ls. is_decided (book ls) a.act ≡ true) (sym z.made.are)
+            (decided_more z.made.before z.made.after a.act (ap (is_decided (book z.made.before)) (sym asker) ∙ over asks_top)) in
+            let no_way : true ≡ false = sym on ∙ undecided in absurd (cc no_way)
+        by (inr met) =
             let a = (let s = stands in s.act) in
             let shows = shown its_place.0 its_place.2 (meets 1 (top_uids (path (acts M.seen.lines) a.label)) (entry met.0) mode.Exclude u m)
             (ap (λ us. meets 1 us (entry met.0) mode.Exclude u m (let z = ans.3 in z.made.before))
@@ -363,8 +394,7 @@ module _ (hd : Header) (form : HeaderInForm hd) (before : List Line) (event : �
           (λ early h header at. subst (λ g. leaves_none g (name w.label) y ≡ true)
           (λ i. record h { header = sym header i; lines = sym at i }) (bare_row h y says early))
       by (confirmed.Conflict u n) says is = subst (λ (g : Label → Body). Fits hd M.seen.lines (g w.label)) (some_is is)
-          (λ early h header at. subst (λ g. is_met_abort g (body.Aborted w.label (cause.Conflict u n 1)) ≡ true →
-          confirm_meets g (name w.label) u n 1 ≡ true)
+          (λ early h header at. subst (λ g. confirm_meets g (name w.label) u n 1 ≡ true)
           (λ i. record h { header = sym header i; lines = sym at i }) (conflict_row h u n says early))
       by confirmed.Yes says is = absurd (cc is)
       by (confirmed.Changed v) says is = absurd (cc is)

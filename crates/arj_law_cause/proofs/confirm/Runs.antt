@@ -41,7 +41,7 @@ use Rattle.arj_law_cause.proofs.kinds.Lines.{more_lines}
 use Rattle.arj_law_cause.proofs.waits.commits.Serving as Serving
 use Rattle.arj_law_cause.proofs.waits.commits.Serving.{AreStill, IsQuiet, goes_so, naming_quiet, quiet_plain, restart_still, tick_still}
 use Rattle.arj_law_cause.specs.kinds.Kinds.{is_bare_abort, is_listed_abort, is_met_abort}
-use Rattle.arj_law_cause.specs.kinds.Rows.{RowHolds, RowHoldsWhere, RowStep, row}
+use Rattle.arj_law_cause.specs.kinds.Rows.{RowHolds, RowStep, row}
 use Rattle.arj_law_parts.proofs.Terms.which
 use Rattle.arj_law_parts.specs.moves.Moments.{no_history}
 use Rattle.arj_law_serial.proofs.Terms.{up_of}
@@ -317,8 +317,8 @@ bare_cause : (hd : Header) (h : Here) (b : Body) → h.header ≡ hd → is_bare
 bare_cause hd h (body.Aborted l (cause.NoStores x)) header its so = so.0 so.1 h header refl
 bare_cause hd h b header its so = absurd (cc its)
 
-met_cause : (hd : Header) (h : Here) (b : Body) → h.header ≡ hd → is_met_abort h b ≡ true → IsSo hd h.lines b → has_cause h b ≡ true
-met_cause hd h (body.Aborted l (cause.Conflict u m n)) header its so = so.0 so.1 h header refl its
+met_cause : (hd : Header) (h : Here) (b : Body) → h.header ≡ hd → is_met_abort b ≡ true → IsSo hd h.lines b → has_cause h b ≡ true
+met_cause hd h (body.Aborted l (cause.Conflict u m n)) header its so = so.0 so.1 h header refl
 met_cause hd h b header its so = absurd (cc its)
 
 pub listed_row : RowHolds is_listed_abort
@@ -329,6 +329,6 @@ pub bare_row : RowHolds is_bare_abort
 bare_row hd r form = rows_so hd (λ h. is_bare_abort) (bare_cause hd) (journal_by hd r) (each_line hd r form) (FramesStep hd) r.start
     (run_events hd r) (frames_are_caused hd r form)
 
-pub met_row : RowHoldsWhere is_met_abort
-met_row hd r form = rows_so hd is_met_abort (met_cause hd) (journal_by hd r) (each_line hd r form) (FramesStep hd) r.start
+pub met_row : RowHolds is_met_abort
+met_row hd r form = rows_so hd (λ h. is_met_abort) (met_cause hd) (journal_by hd r) (each_line hd r form) (FramesStep hd) r.start
     (run_events hd r) (frames_are_caused hd r form)

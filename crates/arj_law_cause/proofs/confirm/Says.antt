@@ -7,7 +7,8 @@ use Words.{is_listed, is_on, top_of, Grants, Marks, confirm, first_of_each, has_
 use Words.{Do, Say, Send, entry_of, listed_entry, is_over, same_nodes, Handled, Parts, Took, Void, handle_ask, serve, served}
 use Words.{sends_answer}
 use Words.{if_naming, with_naming, Naming, Named, Node, Post, Seen, at_number, AllByRecursion, In}
-use Words.{◌⊎◌, ⊤, entry, eq-eqb, last_uid, Row, Path, Mode, nobody, top_path, is_wanted, wanted, wants_lock}
+use Words.{◌⊎◌, ◌<◌, ⊎_elim, ObjectState, IsFormed, entry_state, held_at, stores_after}
+use Words.{⊤, entry, eq-eqb, last_uid, Row, Path, Mode, top_path, is_wanted, wanted, wants_lock}
 use Words.{holder_of, state_entry, refused_exclude, first_conflict}
 use Words.ask
 use Words.confirmed
@@ -39,7 +40,17 @@ use Rattle.arj_law_cause.proofs.confirm.{Replies.listed_found, Replies.refused}
 use Rattle.arj_law_cause.proofs.rows.Telling.{outs_in, same_reply, silent_front, table_then}
 use Rattle.arj_law_cause.proofs.rows.Meeting.{meets_by}
 use Rattle.arj_law_cause.specs.rows.Tables.{Tables}
-use Rattle.arj_law_cause.proofs.confirm.{Conflicts.IsDoubted, Conflicts.Meets, Conflicts.changed_by, Conflicts.conflicts}
+use Rattle.arj_law_cause.proofs.confirm.{Began.acts_new, Conflicts.Hinders, Conflicts.IsHindered, Conflicts.Meets, Conflicts.changed_by}
+use Rattle.arj_law_cause.proofs.confirm.{Conflicts.conflicts, Entries.decided_more, Entries.entry_below, Entries.entry_writer}
+use Rattle.arj_law_cause.proofs.confirm.{Entries.next_not_old, Entries.starts_keep, Labels.written}
+use Rattle.arj_law_runs.proofs.journal.{Books.sane_lines, Books.sane_new, Models.act_there, Models.its_acts}
+use Rattle.arj_law_runs.specs.journal.Book.{book, is_decided, new_book}
+use Rattle.arj_law_runs.specs.journal.Right.{AreRight}
+use Rattle.arj_model.specs.Actions.{Act}
+use Rattle.arj_model.specs.Last.{entry_from}
+use Rattle.arj_promise.specs.Starts.{IsPast}
+use Rattle.arj_base.specs.declared.limits.TheConstants.{LAST_VERSION}
+use Rattle.arj_law_lock_view.proofs.Terms.{some_is}
 use Rattle.arj_law_cause.proofs.confirm.{Replies.any_listed, Replies.is_of_entries, Replies.none_at, Replies.unrefused, Replies.wanted_in}
 use Rattle.arj_law_cause.proofs.confirm.{Joined.early_before}
 use Rattle.arj_law_serial.proofs.Terms.{ShowsLocks, named_locks, rows_on, up_of}
@@ -51,11 +62,12 @@ use Rattle.arj_law_disk_view.proofs.Terms.{or_left}
 
 -- ---- what is said
 
--- The top meets this row, as the first one against the exclude lock, on the entry of an object for which the Confirm excludes a store;
--- or it is the top itself that is named, or nobody.
+-- The top meets this row, as the first one against the exclude lock, on the entry of an object for which the Confirm excludes a store; or
+-- it is decided already, where it is a top that asks.
 abbrev pub MeetsRow : Head → Marks → Uid → Mode → List Line → Type 0
-MeetsRow h excluded u m before = (u ≡ top_of h.path) ⊎ ((u ≡ nobody) ⊎ ((y : ℕ) × (s : ℕ) × (is_listed s (marked y excluded) ≡ true)
-    × (meets 1 (top_path h.path) (entry y) mode.Exclude u m before ≡ true)))
+MeetsRow h excluded u m before = ((actor h.path ≡ top_of h.path) → is_decided (book before) (actor h.path) ≡ true)
+    ⊎ ((y : ℕ) × (s : ℕ) × (is_listed s (marked y excluded) ≡ true)
+    × (meets 1 (top_path h.path) (entry y) mode.Exclude u m before ≡ true))
 
 -- Where naming refuses a Confirm for a store that it includes, the store is listed. Where it refuses one that would leave no store, some
 -- are listed, and the Confirm excludes each of these, and includes none.
@@ -89,6 +101,9 @@ module _ (hd : Header) (form : HeaderInForm hd) (Z : Seen) (reached : Reached hd
 
   mine : Node
   mine = record { number = k; disk = d; live = Some t }
+
+  right : AreRight new_book Z.lines
+  right = let w = written hd Z reached in w.right
 
   here1 : Z.nodes 1 ≡ Some (record { number = k; disk = d; live = Some t })
   here1 = ap Z.nodes (sym one) ∙ here
@@ -139,9 +154,13 @@ module _ (hd : Header) (form : HeaderInForm hd) (Z : Seen) (reached : Reached hd
     counts : ClaimsGrants y q.office (uid_number (top_of h.path)) grants
     counts = subst (heard.ClaimsAsked y q.office) asking (let z = q.heard in z.posts (record { from = from; to = k; message = m }) posted)
 
-    -- where nothing is prepared of the entry, it lists the journal's stores
+    -- where nothing is prepared of the entry, it is the journal's
+    pub clean_so : holder_of (entry y) d.names ≡ None → held_at (entry y) d.names ≡ Some (entry_from hd Z.start.marks Z.lines y)
+    clean_so free = let c = q.clean in c.names (record { number = k; disk = d; live = Some t }) here1 free
+
+    -- so it lists the journal's stores
     content : holder_of (entry y) d.names ≡ None → (listed_entry y d.names).stores ≡ listed hd Z.lines y
-    content free = ap (λ o. (entry_of o).stores) (let c = q.clean in c.names (record { number = k; disk = d; live = Some t }) here1 free)
+    content free = ap (λ o. (entry_of o).stores) (clean_so free)
         ∙ stores_back (servers_of_line (object_line hd y)) (listed hd Z.lines y)
 
     pub joined_unheld : (s : ℕ) → is_listed s (marked y included) ≡ true → holder_of (entry y) d.names ≡ None
@@ -194,28 +213,38 @@ module _ (hd : Header) (form : HeaderInForm hd) (Z : Seen) (reached : Reached hd
             subst (λ ss. list_all (λ s. is_listed s (marked y excluded)) ss ≡ true) same l.all,
           )
 
-  -- who has passed all checks finds no entry in doubt that changes
-  not_doubted : IsDoubted h.path grants excluded included d.names n → IsEarly Z.lines → ⊥
-  not_doubted z early = by (changed_by (let g = z.grant in g.0) excluded included (state_entry z.old) z.other)
+  -- the action that asks began, and has no Uid from before the run
+  asker_new : IsPast Z.start (actor h.path) → ⊥
+  asker_new past = acts_new hd Z reached a.0 (subst (In a.0) (its_acts Z.lines right) a.1) (subst (IsPast Z.start) (sym a.2) past)
+    where
+      called : is_called Z.lines (actor h.path)
+      called = (reached_has hd BasedCalled (called_keep hd) Z reached).1 (record { from = from; to = k; message = m }) h
+          (ask.Confirm grants excluded included) sent asking
+
+      a : (b : Act) × In b (let B = book Z.lines in B.acts) × (b.uid ≡ actor h.path)
+      a = act_there (let B = book Z.lines in B.acts) (actor h.path)
+          (let c = sane_lines new_book Z.lines right sane_new in c.called (actor h.path) called)
+
+  -- who has passed all checks, and is refused for what stands of an entry that it changes, is decided, where it is a top that asks
+  hindered_so : IsHindered h.path grants excluded included d.names n → IsEarly Z.lines → actor h.path ≡ top_of h.path →
+      is_decided (book Z.lines) (actor h.path) ≡ true
+  hindered_so z early asks_top = by z.refused
     where
       line : is_some (object_line hd (let g = z.grant in g.0)) ≡ true
       line = grant_there z.grant z.there
 
-      free : holder_of (entry (let g = z.grant in g.0)) d.names ≡ None → ⊥
-      free none = let no_way : true ≡ false = sym z.doubted ∙ ap is_some none in cc no_way
-
       locked : (o : Option Named) → at_number (let g = z.grant in g.0) n.objects ≡ o → conflict_in (let g = z.grant in g.0) h.path
-          (at_number (let g = z.grant in g.0) n.objects) ≡ None → ⊥
-      locked None at none = let no_way : false ≡ true = sym (ap is_some at) ∙ named_there z.grant grants z.there z.named in cc no_way
+          (at_number (let g = z.grant in g.0) n.objects) ≡ None → holder_of (entry (let g = z.grant in g.0)) d.names ≡ None
+      locked None at none = let no_way : false ≡ true = sym (ap is_some at) ∙ named_there z.grant grants z.there z.named in absurd (cc no_way)
       locked (Some o) at none =
-          free (locked_unheld early (let g = z.grant in g.0) line z.untold z.unconfirmed z.own o at
-          (sym (ap (conflict_in (let g = z.grant in g.0) h.path) at) ∙ none))
+          locked_unheld early (let g = z.grant in g.0) line z.untold z.unconfirmed z.own o at
+          (sym (ap (conflict_in (let g = z.grant in g.0) h.path) at) ∙ none)
 
-      by : ((s : ℕ) × (is_listed s (marked (let g = z.grant in g.0) included) ≡ true))
+      by_change : ((s : ℕ) × (is_listed s (marked (let g = z.grant in g.0) included) ≡ true))
           ⊎ ((s : ℕ) × (is_listed s (state_entry z.old).stores ≡ true) × (is_listed s (marked (let g = z.grant in g.0) excluded) ≡ true))
-          → ⊥
-      by (inl f) = free (joined_unheld early (let g = z.grant in g.0) line z.untold z.unconfirmed z.own f.0 f.1)
-      by (inr f) = locked (at_number (let g = z.grant in g.0) n.objects) refl
+          → holder_of (entry (let g = z.grant in g.0)) d.names ≡ None
+      by_change (inl f) = joined_unheld early (let g = z.grant in g.0) line z.untold z.unconfirmed z.own f.0 f.1
+      by_change (inr f) = locked (at_number (let g = z.grant in g.0) n.objects) refl
           (unrefused (λ (r : Row). confirmed.Conflict (last_uid r.holder) r.mode)
           (conflict_in (let g = z.grant in g.0) h.path (at_number (let g = z.grant in g.0) n.objects))
           (none_at (refused_exclude h.path n) (let g = z.grant in g.0) (wanted (top_of h.path) grants excluded d.names)
@@ -224,6 +253,31 @@ module _ (hd : Header) (form : HeaderInForm hd) (Z : Seen) (reached : Reached hd
           (or_left (is_listed f.0 (listed_entry (let g = z.grant in g.0) d.names).stores)
           (is_prepared_with (let g = z.grant in g.0) (top_of h.path) f.0 d.names)
           (ap (λ o. is_listed f.0 (entry_of o).stores) z.held ∙ f.1)))) z.locks))
+
+      free : holder_of (entry (let g = z.grant in g.0)) d.names ≡ None
+      free = by_change (changed_by (let g = z.grant in g.0) excluded included (state_entry z.old) z.other)
+
+      -- the entry that stands is the journal's
+      same : z.old ≡ entry_from hd Z.start.marks Z.lines (let g = z.grant in g.0)
+      same = some_is (sym z.held ∙ clean_so early (let g = z.grant in g.0) line z.untold z.unconfirmed z.own free)
+
+      began : IsFormed hd Z.start
+      began = reached_has hd (λ M. IsFormed hd M.start) (starts_keep hd) Z reached
+
+      by : Hinders (top_of h.path) (entry_state (let g = z.grant in g.0) (top_of h.path) z.old
+          (stores_after (let g = z.grant in g.0) excluded included (state_entry z.old)))
+          (Some z.old) (holder_of (entry (let g = z.grant in g.0)) d.names) → is_decided (book Z.lines) (actor h.path) ≡ true
+      by (inl held) = let no_way : true ≡ false = sym held ∙ ap is_some free in absurd (cc no_way)
+      by (inr (inr old)) = let no_way : true ≡ false = sym old ∙ next_not_old (entry_state (let g = z.grant in g.0) (top_of h.path) z.old
+          (stores_after (let g = z.grant in g.0) excluded included (state_entry z.old))) z.old refl
+          (subst (λ (e : ObjectState). e.version < LAST_VERSION) (sym same)
+          (entry_below hd Z.start began Z.lines right early.short (let g = z.grant in g.0))) in absurd (cc no_way)
+      by (inr (inl own)) =
+          let whose : (entry_from hd Z.start.marks Z.lines (let g = z.grant in g.0)).writer ≡ actor h.path
+          = ap (λ (e : ObjectState). e.writer) (sym same) ∙ own ∙ sym asks_top in
+          ⊎_elim (λ past. absurd (asker_new (subst (IsPast Z.start) (sym past ∙ whose) (began.entries (let g = z.grant in g.0)))))
+          (λ decided. ap (is_decided (book Z.lines)) (sym whose) ∙ decided)
+          (entry_writer hd Z.start Z.lines right (let g = z.grant in g.0))
 
   -- a refusal by entries is so
   refuses_so : (r : ConfirmedReply) → is_of_entries r ≡ true → (confirm h.path grants excluded included d.names n).reply ≡ Some r →
@@ -251,6 +305,14 @@ called_behind e [] ls u on = on
 called_behind e (Say b ∷ es) ls u on = called_behind e es (ls ++ numbered e (b ∷ [])) u (called_more ls (numbered e (b ∷ [])) u on)
 called_behind e (Send to m ∷ es) ls u on = called_behind e es ls u on
 called_behind e (Do w ∷ es) ls u on = called_behind e es ls u on
+
+decided_behind : (e : ℕ) (es : List Effect) (ls : List Line) (u : Uid) → is_decided (book ls) u ≡ true →
+    is_decided (book (lines_behind e es ls)) u ≡ true
+decided_behind e [] ls u on = on
+decided_behind e (Say b ∷ es) ls u on =
+    decided_behind e es (ls ++ numbered e (b ∷ [])) u (decided_more ls (numbered e (b ∷ [])) u on)
+decided_behind e (Send to m ∷ es) ls u on = decided_behind e es ls u on
+decided_behind e (Do w ∷ es) ls u on = decided_behind e es ls u on
 
 behind_front : (e : ℕ) (es : List Effect) (ls : List Line) → IsEarly (lines_behind e es ls) → IsEarly ls
 behind_front e [] ls early = early
@@ -340,7 +402,7 @@ module _ (hd : Header) (form : HeaderInForm hd) (k : ℕ) (d : Disk) (t v : Part
 
         by : IsEarly (lines_behind M.past.number front M.seen.lines) → Meets h.path grants excluded included d.names n u mo →
             MeetsRow h excluded u mo (lines_behind M.past.number front M.seen.lines)
-        by early (inl met) = inr (inr (
+        by early (inl met) = inr (
           met.object,
           met.store,
           met.excludes,
@@ -351,11 +413,10 @@ module _ (hd : Header) (form : HeaderInForm hd) (k : ℕ) (d : Disk) (t v : Part
                 holder = met.holder;
                 mode = met.held;
               }),
-        ))
-        by early (inr (inl doubted)) = absurd (not_doubted hd form Z known.2 k d t n named here (one (ap is_some named)) from m its h grants
-            excluded included asking doubted (behind_front M.past.number front M.seen.lines early))
-        by early (inr (inr (inl top))) = inl top
-        by early (inr (inr (inr none))) = inr (inl none)
+        )
+        by early (inr hindered) = inl (λ top. decided_behind M.past.number front M.seen.lines (actor h.path)
+            (hindered_so hd form Z known.2 k d t n named here (one (ap is_some named)) from m its h grants
+            excluded included asking hindered (behind_front M.past.number front M.seen.lines early) top))
     refuses_then q at e = tt
 
     by_reply : (o : Option ConfirmedReply) → Did_so.reply ≡ o →

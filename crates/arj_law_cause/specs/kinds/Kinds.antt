@@ -1,17 +1,13 @@
 -- Which lines each row of causes is of.
-use Rattle.std.specs.Prelude.{Bool, true, false, not, ◌&&◌}
+use Rattle.std.specs.Prelude.{Bool, true, false, not}
 use Rattle.arj_journal.specs.declared.body.Body.{Body}
 use Rattle.arj_journal.specs.declared.body.Body.TheVariants as body
 use Rattle.arj_journal.specs.declared.body.Part.TheVariants as part
 use Rattle.arj_journal.specs.declared.body.Cause.TheVariants as cause
 use Rattle.arj_journal.specs.declared.body.Role.TheVariants as role
 use Rattle.arj_base.specs.declared.mode.End.TheVariants as ending
-use Rattle.arj_base.specs.Rows.{last_uid}
-use Rattle.arj_base.specs.Uid.{nobody, uid_eq}
-use Rattle.arj_model.specs.Actions.{acts, path}
-use Rattle.arj_model.specs.CauseSpans.{Here, top_uids}
+use Rattle.arj_model.specs.CauseSpans.{Here}
 use Rattle.arj_model.specs.Table.{is_entry}
-use Rattle.arj_text.specs.Label.{name}
 use Rattle.arj_law_runs.specs.follow.Refusals.{is_plain_cause}
 
 -- a frame was sent
@@ -168,8 +164,7 @@ abbrev pub is_bare_abort : Body → Bool
 is_bare_abort (body.Aborted l (cause.NoStores x)) = true
 is_bare_abort _ = false
 
--- it refused one for a row that the top met, and that is of another action
-abbrev pub is_met_abort : Here → Body → Bool
-is_met_abort h (body.Aborted l (cause.Conflict u m n)) =
-    not (uid_eq u nobody) && not (uid_eq u (last_uid (top_uids (path (acts h.lines) (name l)))))
-is_met_abort h _ = false
+-- it refused one for a row that the top met
+abbrev pub is_met_abort : Body → Bool
+is_met_abort (body.Aborted l (cause.Conflict u m n)) = true
+is_met_abort _ = false

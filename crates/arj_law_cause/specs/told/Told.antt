@@ -41,9 +41,9 @@ pub record TellsEvents (hd : Header) (st : Start) (es : List Event) (journal : L
   pub included : HaveCauses is_listed_abort hd st es journal
   -- and for want of stores where its action excludes all that were listed there, and all that it includes
   pub bare : HaveCauses is_bare_abort hd st es journal
-  -- and for a conflict with another action where the top met this row there, on the entry of an object from which its action
+  -- and for a conflict where the top met this row there, as the first one against an exclude lock, on the entry of an object from which it
   -- excludes a store
-  pub met : Runs (RowStep is_met_abort hd) st es journal
+  pub met : HaveCauses is_met_abort hd st es journal
 
 -- What calls are answered.
 pub record TellsAnswers (hd : Header) (st : Start) (es : List Event) (journal : List Line) : Type 0 where
