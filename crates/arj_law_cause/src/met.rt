@@ -2,6 +2,7 @@
 ghost use Rattle.arj_law_cause.specs.rows.Runs.{RunsMeetRows};
 ghost use Rattle.arj_law_cause.specs.rows.Says.{says_so};
 ghost use Rattle.arj_law_lock_view.specs.moments.Runs.{AnswersAreTakenInSpan};
+ghost use Rattle.arj_protocol.specs.Words.{Header};
 
 /// In every run, wherever disks stop, with all crashes and restarts, each answer that was sent was made at a place of the
 /// journal, and there a conflict is with a row of the journal's table: at a server the call meets it, at naming its top does,
@@ -9,5 +10,5 @@ ghost use Rattle.arj_law_lock_view.specs.moments.Runs.{AnswersAreTakenInSpan};
 /// against what was asked. And who takes one takes it in the span of what was asked. It does nothing when it runs.
 pub fn conflicts_are_met()
     ensures runs { RunsMeetRows }
-    ensures span { AnswersAreTakenInSpan says_so }
+    ensures span { (hd : Header) → AnswersAreTakenInSpan (says_so hd) }
 {}

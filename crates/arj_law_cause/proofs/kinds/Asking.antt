@@ -1,5 +1,5 @@
--- Whoever is asked to prepare something, or to confirm, is asked for a top whose commit was called; and if naming is asked to exclude or
--- include stores, the top has excluded one, or an include of it survives.
+-- Whoever is asked to prepare something, or to confirm, is asked for a top whose commit was called; and the stores that naming is asked to
+-- exclude the top has excluded, and those that it is asked to include an include of the top that survives names.
 use Rattle.arj_law_parts.proofs.Words
 use Words.{⊤, ◌≡◌, ◌⊎◌, ◌∙◌, ◌==◌, ◌&&◌, ◌||◌, ◌++◌, ◌+◌, ◌<◌, not, ℕ, Bool, true, false, cond, List, [], ◌∷◌, Option, Some, None, refl}
 use Words.{sym, ap}
@@ -68,6 +68,11 @@ abbrev pub Excludes : List Line → Uid → Marks → Type 0
 Excludes lines u marks =
     (e : ℕ × ℕ) → In e marks → (a : Act) × In a (acts lines) × (a.uid ≡ u) × (is_among (leaves_of lines a.id e.0) e.1 ≡ true)
 
+-- includes of the action that survive name each of these stores
+abbrev pub Includes : List Line → Uid → Marks → Type 0
+Includes lines u marks =
+    (e : ℕ × ℕ) → In e marks → (a : Act) × In a (acts lines) × (a.uid ≡ u) × (is_among (joins_of lines a.id e.0) e.1 ≡ true)
+
 -- naming has something to do
 abbrev pub HasMarks : Marks → Marks → Type 0
 HasMarks excluded included = (excluded ≡ []) × (included ≡ []) → ⊥
@@ -77,6 +82,7 @@ AskSo lines None = ⊤
 AskSo lines (Some (h, ask.Prepare states)) = IsCalled lines (actor h.path)
 AskSo lines (Some (h, ask.Confirm grants excluded included)) =
     (HasMarks excluded included → NamesLists lines (actor h.path)) × Excludes lines (actor h.path) excluded
+    × Includes lines (actor h.path) included
 AskSo lines (Some (h, a)) = ⊤
 
 -- so it is of each request that was sent
@@ -191,11 +197,22 @@ excludes_later ls ms u marks its e i = let z = its e i in (
   leaves_later ls ms (let a = z.0 in a.id) e.0 e.1 z.3,
 )
 
+includes_later : (ls ms : List Line) (u : Uid) (marks : Marks) → Includes ls u marks → Includes (ls ++ ms) u marks
+includes_later ls ms u marks its e i = let z = its e i in (
+  z.0,
+  subst (In z.0) (sym (acts_more [] ls ms)) (in_later ms (acts ls) z.0 z.1),
+  z.2,
+  joins_later ls ms (let a = z.0 in a.id) e.0 e.1 z.3,
+)
+
 ask_later : (ls ms : List Line) (o : Option (Head × Ask)) → AskSo ls o → AskSo (ls ++ ms) o
 ask_later ls ms None so = so
 ask_later ls ms (Some (h, ask.Prepare states)) so = called_later ls ms (actor h.path) so
-ask_later ls ms (Some (h, ask.Confirm grants excluded included)) so =
-    ((λ some. names_later ls ms (actor h.path) (so.0 some)), excludes_later ls ms (actor h.path) excluded so.1)
+ask_later ls ms (Some (h, ask.Confirm grants excluded included)) so = (
+  (λ some. names_later ls ms (actor h.path) (so.0 some)),
+  excludes_later ls ms (actor h.path) excluded so.1,
+  includes_later ls ms (actor h.path) included so.2,
+)
 ask_later ls ms (Some (h, ask.Bind a b c)) so = so
 ask_later ls ms (Some (h, ask.Load a)) so = so
 ask_later ls ms (Some (h, ask.Activate a b)) so = so
@@ -380,18 +397,17 @@ module _ (k : ℕ) (d : Disk) (v : Parts) (N : Seen) (stood : Stood (up k d v N)
     excludes : (e : ℕ × ℕ) (es : Marks) → p.excluded ≡ e ∷ es → ChangesLists N.lines its.act.id
     excludes e es is = inl (of_top its.act.id e.0 e.1 (last.excluded N.lines) (leaves e (subst (In e) (sym is) (inl refl))))
 
-    joins : (i : ℕ × ℕ) (is : Marks) → included_of p ≡ i ∷ is → ChangesLists N.lines its.act.id
-    joins i is are = inr (
-      w.x,
-      i.1,
-      sym (joined N.lines right w.x its.act (in_acts u q (Confirming p) found now) i.1)
-          ∙ subst (λ (z : Act). has_included (book N.lines) z.uid w.x i.1 ≡ true) (same_act u q (Confirming p) found now)
-          (sym (includes_it.same w.x i.1) ∙ (λ j. has (let r = plan_by (found_in p.used awaited w in_used j) (Words.changed_of w.x p) in
-          r.joins) i.1) ∙ mine),
-    )
+    -- a survivor of its includes names each store that it includes
+    joins_it : (i : ℕ × ℕ) → In i (included_of p) → is_among (joins_of N.lines its.act.id i.0) i.1 ≡ true
+    joins_it i there =
+        subst (λ x. is_among (joins_of N.lines its.act.id x) i.1 ≡ true) (ap (λ (z : ℕ × ℕ). z.0) m.2)
+        (sym (joined N.lines right w.x its.act (in_acts u q (Confirming p) found now) i.1)
+        ∙ subst (λ (z : Act). has_included (book N.lines) z.uid w.x i.1 ≡ true) (same_act u q (Confirming p) found now)
+        (sym (includes_it.same w.x i.1) ∙ (λ j. has (let r = plan_by (found_in p.used awaited w in_used j) (Words.changed_of w.x p) in
+        r.joins) i.1) ∙ mine))
       where
         f : (a : Used) × In a p.used × In i (joins_left p a)
-        f = in_flat (joins_left p) i p.used (subst (In i) (sym are) (inl refl))
+        f = in_flat (joins_left p) i p.used there
 
         w : Used
         w = f.0
@@ -414,7 +430,7 @@ module _ (k : ℕ) (d : Disk) (v : Parts) (N : Seen) (stood : Stood (up k d v N)
       where
         by : (es : Marks) → p.excluded ≡ es → (is : Marks) → included_of p ≡ is → ChangesLists N.lines its.act.id
         by (e ∷ es) ex is ic = excludes e es ex
-        by [] ex (i ∷ is) ic = joins i is ic
+        by [] ex (i ∷ is) ic = inr (i.0, i.1, joins_it i (subst (In i) (sym ic) (inl refl)))
         by [] ex [] ic = absurd (some (ex, ic))
 
     names_it : HasMarks p.excluded (included_of p) → NamesLists N.lines u
@@ -437,6 +453,12 @@ module _ (k : ℕ) (d : Disk) (v : Parts) (N : Seen) (stood : Stood (up k d v N)
           in_acts (actor h.path) b.doing (Confirming b.plan) b.found b.now,
           z.uid,
           leaves (actor h.path) b.doing b.plan b.found b.now e (subst (In e) b.excluded i),
+        ),
+        λ e i. (
+          z.act,
+          in_acts (actor h.path) b.doing (Confirming b.plan) b.found b.now,
+          z.uid,
+          joins_it (actor h.path) b.doing b.plan b.found b.now e (subst (In e) b.included i),
         ),
       )
   sent_so to h (ask.Bind a b c) s = tt

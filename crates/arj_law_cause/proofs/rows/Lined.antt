@@ -1,6 +1,6 @@
 -- Inside of an event each line that answers a call has its cause behind those before it.
 use Rattle.arj_law_parts.proofs.Words
-use Words.{◌≡◌, ◌∙◌, ◌==◌, ◌+◌, ◌++◌, ◌&&◌, ℕ, Bool, true, false, if◌then◌else◌, List, [], ◌∷◌, length, map, Option, Some, None, refl}
+use Words.{◌≡◌, ◌∙◌, ◌==◌, ◌+◌, ◌++◌, ◌&&◌, ℕ, Bool, true, false, if◌then◌else◌, List, [], ◌∷◌, length, Option, Some, None, refl}
 use Words.{sym, ap}
 use Words.{filter, ◌⊎◌, In, inl, inr, subst, ⊤, AllByRecursion, list_all, and_parts, append-nil, append_assoc, map-append, Start, Asked}
 use Words.{Body, Header, Kind}
@@ -38,7 +38,7 @@ use Rattle.arj_law_cause.proofs.rows.Rows.{changed_so, conflict_so, included_so,
 use Rattle.arj_law_runs.specs.addresses.Binds.{StandsOn}
 use Words.{AtInvoke}
 use Rattle.arj_law_cause.proofs.rows.Locked.{LoadsAreLocked, own_of}
-use Rattle.arj_law_cause.proofs.rows.Taking.{AskedPaths, IsPathAt, Works, caller, full_reply, one_server, stands_on, taken}
+use Rattle.arj_law_cause.proofs.rows.Taking.{AskedPaths, IsPathAt, Works, caller, full_reply, off_called, one_server, stands_on, taken}
 use Rattle.arj_law_cause.proofs.waits.lost.Bound.{BoundFull, ReplyFull}
 use Rattle.arj_law_cause.proofs.waits.lost.Stored.{IsFull}
 use Rattle.arj_law_runs.proofs.journal.Beginning as Beginning
@@ -312,7 +312,8 @@ module _ (hd : Header) (st : Start) (before : List Line) (event : ℕ) where
           by (Conflict v held n) ends = conflict_so hd k M (here_of accepted M M.seen.lines) refl refl
               (asks_same accepted (accepted_of M.past.askings) same) u w s (caller hd k d t M W u w s found is)
               h.paths (kept_of s.x (root_at (root_of s.path) t.coord)) (stands_on hd k d t M W u w s found is) from a r
-              (taken hd k d t M W u w s found is from m there a r answer act waits) v held n ends
+              (taken hd k d t M W u w s found is from m there a r answer act waits) W.form
+              (off_called hd k d t M W u w s found is) v held n ends
           by (Changed n x) ends = changed_so hd k M (here_of accepted M M.seen.lines) refl refl
               (asks_same accepted (accepted_of M.past.askings) same) u w s (caller hd k d t M W u w s found is) h.paths
               (kept_of s.x (root_at (root_of s.path) t.coord)) (stands_on hd k d t M W u w s found is) from a r

@@ -2,7 +2,7 @@
 -- nodes do.
 use Rattle.arj_law_parts.proofs.Words
 use Words.{⊤, ◌≡◌, ◌≢◌, ◌≤◌, ◌∙◌, ◌==◌, ◌+◌, ◌++◌, ◌||◌, not, ℕ, Bool, true, false, cond, if◌then◌else◌, List, [], ◌∷◌, length, Option}
-use Words.{Some, None, refl, sym, ap, subst, append-nil, append_assoc, bytes_eq, ⊎_elim, is_some}
+use Words.{Some, None, refl, sym, ap, subst, append-nil, append_assoc, bytes_eq, is_some}
 use Words.{Ask, Asked, Body, BoundReply, Binding, Event, Head, Header, Kind, Label, Line, Message, Uid, asks, name, top_of, numbered}
 use Words.{Reply, actor, answers, ask_at, frame_kind, again_all, begin_action, heard, waits_for_call, tick_outs, is_serial}
 use Words.{At, AtBind, AtActivate, AtInvoke, AtLoad, AtNote, Goal, Include, Run, Steps, is_include, kept_of, root_at, root_of}
@@ -247,23 +247,23 @@ module _ (hd : Header) (k : ℕ) (d : Disk) (t : Parts) (M : Moment) (W : Works 
             request : T.ask ≡ ask.Bind s.x (is_include s.goal) avoid
             request = bind_is T.ask s.x (is_include s.goal) avoid (T.same ∙ (λ j. ask_at s.x s.goal [] (bind j)))
 
-            so : says_of from (head_of s) (ask.Bind s.x (is_include s.goal) avoid) r T.before
-            so = subst (λ z. says_of from (head_of s) z r T.before) request T.so
+            so : says_of hd from (head_of s) (ask.Bind s.x (is_include s.goal) avoid) r T.before
+            so = subst (λ z. says_of hd from (head_of s) z r T.before) request T.so
 
             by : (z : BoundReply) → r ≡ Reply.Bound z → is_conflict z ≡ false →
                 IsLocked M.seen.lines M.past.askings w.label (top_of s.path) s.x
             by (bound.Conflict u h) same off = absurd (cc off)
             by (bound.Live b server i g stores) same off = never include
-                (subst (λ z. says_of from (head_of s) (ask.Bind s.x (is_include s.goal) avoid) z T.before) same so)
+                (subst (λ z. says_of hd from (head_of s) (ask.Bind s.x (is_include s.goal) avoid) z T.before) same so)
             by (bound.Make b server g stores) same off = never include
-                (subst (λ z. says_of from (head_of s) (ask.Bind s.x (is_include s.goal) avoid) z T.before) same so)
+                (subst (λ z. says_of hd from (head_of s) (ask.Bind s.x (is_include s.goal) avoid) z T.before) same so)
             by (bound.Write g stores) same off = record {
               before = T.before;
               after = T.after;
               are = T.are;
               late = λ e last. subst (λ (z : AskedOf). z.at ≤ length T.before)
                   (some_is (sym (let c = caller hd k d t M W a.act w s found is in let z = c.asked in z.last) ∙ last)) T.late;
-              lock = subst (λ z. says_of from (head_of s) (ask.Bind s.x (is_include s.goal) avoid) z T.before) same so;
+              lock = subst (λ z. says_of hd from (head_of s) (ask.Bind s.x (is_include s.goal) avoid) z T.before) same so;
             }
 
     heard_locked : AreLocked M.seen.lines M.past.askings (let q = heard from a r d.intents t.coord in q.part)

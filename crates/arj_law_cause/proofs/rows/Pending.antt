@@ -44,13 +44,16 @@ use Rattle.arj_model.specs.Actions.{top_in}
 use Rattle.arj_model.specs.Calls.{committing_of, committings}
 use Rattle.arj_model.specs.CausePends.{called_at, pends_step}
 use Rattle.arj_model.specs.CauseSpans.{holds_in}
-use Rattle.arj_model.specs.Refusals.{holds_of}
+use Rattle.arj_model.specs.Refusals.{holds_of, was_called}
 use Rattle.std.specs.Prelude.{drop}
 use Rattle.arj_law.proofs.JoinedCalls.{path_of, top_all}
 use Rattle.arj_model.specs.Actions.{acts_from}
 use Rattle.arj_law_runs.proofs.journal.Models.{in_later}
 use Words.{AllByRecursion}
+use Rattle.arj_law_cause.proofs.kinds.Over.{read_later}
 use Rattle.arj_law_cause.proofs.kinds.Waiting.{called_is}
+use Rattle.arj_law_runs.proofs.journal.Owners.{acts_more}
+use Words.{in_find}
 use Rattle.arj_law_cause.proofs.rows.Holders.{one_found, one_passes}
 use Rattle.arj_law_cause.proofs.waits.waiting.Lists.{any_in}
 use Rattle.arj_law_cause.specs.rows.Says.{may_be_pending, may_pend}
@@ -225,6 +228,37 @@ item_there us n (l ∷ ls) m there t is = by (committing_of us l.body) refl ther
         each : (xs : List Act) → ((a : Act) → In a xs → In a us) → AllByRecursion (λ (a : Act). In a us) xs
         each [] to = tt
         each (x ∷ xs) to = (to x (inl refl), each xs (λ a i. to a (inr i)))
+
+-- whose commit these lines call began by then
+pub called_act : (ls : List Line) (v : Uid) → IsCalledAt ls v →
+    (t : Act) × In t (acts ls) × (t.uid ≡ v) × (was_called (committings ls) t.id ≡ true)
+called_act ls v at = by (top_in (let z = at.0 in z.it)) refl found.1
+  where
+    found : In at.0 (committings ls) × (holds_in (λ (top : Act). uid_eq top.uid v) (top_in (let z = at.0 in z.it)) ≡ true)
+    found = in_find (λ (z : Placed (List Act)). holds_in (λ (top : Act). uid_eq top.uid v) (top_in z.it)) at.0 (committings ls) at.1
+
+    by : (o : Option Act) → top_in (let z = at.0 in z.it) ≡ o → holds_in (λ (top : Act). uid_eq top.uid v) o ≡ true →
+        (t : Act) × In t (acts ls) × (t.uid ≡ v) × (was_called (committings ls) t.id ≡ true)
+    by None top is = absurd (cc is)
+    by (Some t) top is = (
+      t,
+      item_there [] 0 ls at.0 found.0 t top,
+      uid_is t.uid v is,
+      any_in (λ (z : Placed (List Act)). holds_of (λ (a : Act). a.id == t.id) (top_in z.it)) (committings ls) at.0 found.0
+          (ap (holds_of (λ (a : Act). a.id == t.id)) top ∙ same_number t.id),
+    )
+
+-- and the book has so, behind more lines
+pub called_book : (lines : List Line) → AreRight new_book lines → (ls ms : List Line) → lines ≡ ls ++ ms → (v : Uid) → IsCalledAt ls v →
+    is_on (let B = book lines in B.called) v ≡ true
+called_book lines right ls ms are v at =
+    let c = called_act ls v at in
+    let t = c.0 in
+    let there : In t (acts lines) = subst (λ ks. In t (acts ks)) (sym are)
+    (subst (In t) (sym (acts_more [] ls ms)) (in_later ms (acts ls) t c.1)) in
+    subst (λ w. is_on (let B = book lines in B.called) w ≡ true) c.2
+    (sym (called_is lines right t there) ∙ subst (λ ks. was_called (committings ks) t.id ≡ true) (sym are)
+    (read_later committing_of (λ (z : Placed (List Act)). holds_in (λ (a : Act). a.id == t.id) (top_in z.it)) [] 0 ls ms c.3))
 
 -- a commit that the book has as called has its place
 called_place : (lines : List Line) → AreRight new_book lines → (u : Uid) → is_on (let B = book lines in B.called) u ≡ true → IsCalledAt

@@ -6,7 +6,8 @@ use Words.{list_any, Binding, In, End, Ask, Asked, Event, Header, Line}
 use Words.{Mode, Op, Row, Uid, Value, class_code_of, entry, object}
 use Rattle.arj_protocol.specs.Words.{FrameKind}
 use Words.{Answer, Known, Label, leb-true, node_at, ◌≤◌, ◌<◌, is_nested, ask_at, op_mode, first_conflict, in_find, is_against, is_on}
-use Words.{last_uid, name, uid_eq, uid_is, uids_of, top_of, top_path, tops_of, actor, Reply, response, frame_kind}
+use Rattle.std.specs.Prelude.{drop}
+use Words.{last_uid, name, uid_eq, uid_is, uid_same, uids_of, top_of, top_path, tops_of, actor, Reply, response, frame_kind}
 use Words.{⊎_elim, ◌==◌, inl, inr, is_include, At, AtActivate, AtBind, AtInvoke, AtLoad, AtNote, Goal, Include, Run, Steps, Doing, nat_le}
 use Words.ask
 use Words.bound
@@ -27,7 +28,9 @@ use Rattle.arj_law_runs.specs.calls.Coords.{bare, head_of}
 use Rattle.arj_model.specs.CauseAnswers.{conflict_caused, has_lock, includes_caused, is_held, meets, meets_at_naming, meets_at_server}
 use Rattle.arj_model.specs.CauseAnswers.{meets_at_store}
 use Rattle.arj_model.specs.CauseAnswers.{mode_of_call, modes_on_entry, ok_caused, was_told}
-use Rattle.arj_model.specs.Actions.{top_in}
+use Rattle.arj_journal.specs.ScriptForm.{HeaderInForm}
+use Rattle.arj_model.specs.Actions.{Placed, top_in}
+use Rattle.arj_model.specs.CausePends.{called_at, may_store}
 use Rattle.arj_model.specs.CauseSpans.{Here, act_by, answered, asks_so, from_place, holds_in, is_call, is_call_of, is_include_of}
 use Rattle.arj_model.specs.CauseSpans.{nodes_of, same_frame}
 use Rattle.arj_model.specs.CauseSpans.{same_mode, same_op, same_pairs, same_value, was_sent}
@@ -43,7 +46,8 @@ use Rattle.arj_law_cause.proofs.rows.Paths.{one_top, top_is}
 use Rattle.arj_law_cause.proofs.rows.Spans.{answered_at, in_range, or_first, or_last, rows_so, sent_to, shown_from}
 use Rattle.arj_law_cause.proofs.rows.Taking.{AskedPaths, IsCaller, IsTaken, bind_is}
 use Rattle.arj_law_cause.specs.rows.Lines.{came_from_store, was_called}
-use Rattle.arj_law_cause.specs.rows.Says.{entry_modes, has_upper, may_be_pending, says_of}
+use Rattle.arj_law_cause.proofs.rows.Pending.{IsCalledAt, called_act}
+use Rattle.arj_law_cause.specs.rows.Says.{entry_modes, has_upper, may_be_in_doubt, may_be_pending, may_pend, says_of}
 
 -- ---- requests
 
@@ -264,8 +268,8 @@ module _ (hd : Header) (k : ℕ) (M : Moment) (h : Here) (header : h.header ≡ 
         request = invoke_is T.ask s.x x.binding i run.0 (T.same ∙ (λ j. ask_at s.x (run.1 j) [] (at j)))
 
         so : (meets from (uids_of s.path) (object s.x) (op_mode run.0) v m T.before ≡ true) × (has_act (acts T.before) v ≡ true)
-        so = subst (λ z. says_of from (head_of s) z (Reply.Invoked (invoked.Conflict v m)) T.before) request.1
-            (subst (λ z. says_of from (head_of s) T.ask z T.before) is T.so)
+        so = subst (λ z. says_of hd from (head_of s) z (Reply.Invoked (invoked.Conflict v m)) T.before) request.1
+            (subst (λ z. says_of hd from (head_of s) T.ask z T.before) is T.so)
 
         its_mode : mode_of_call (let z = q in z.event) ≡ Some (op_mode run.0)
         its_mode = ap mode_of_call (its_event ∙ ap (asks_goal (let g = c.asked.goal in g.0) s.x) run.1)
@@ -290,8 +294,8 @@ module _ (hd : Header) (k : ℕ) (M : Moment) (h : Here) (header : h.header ≡ 
         request = invoke_is T.ask s.x x.binding i o (T.same ∙ (λ j. ask_at s.x (goal j) [] (at j)))
 
         so : has_lock from (actor s.path) (object s.x) (op_mode o) T.before ≡ true
-        so = subst (λ z. says_of from (head_of s) z (Reply.Invoked (invoked.Answered b)) T.before) request.1
-            (subst (λ z. says_of from (head_of s) T.ask z T.before) is T.so)
+        so = subst (λ z. says_of hd from (head_of s) z (Reply.Invoked (invoked.Answered b)) T.before) request.1
+            (subst (λ z. says_of hd from (head_of s) T.ask z T.before) is T.so)
 
         locked : list_any (λ n. answered h (let z = q in z.at) (let y = c.act.uid in y.node) n (frame.Invoked ∷ [])
             (has_lock n c.act.uid (object s.x) (op_mode o))) (nodes_of h.header) ≡ true
@@ -347,15 +351,15 @@ module _ (hd : Header) (k : ℕ) (M : Moment) (h : Here) (header : h.header ≡ 
 
     -- naming answers with a binding only to a call
     bound_told : (n : ℕ) (avoid : Binding) (z : BoundReply) → s.at ≡ AtBind avoid → r ≡ Reply.Bound z →
-        (says_of from (head_of s) (ask.Bind s.x (is_include s.goal) avoid) (Reply.Bound z) T.before → is_include s.goal ≡ false) →
+        (says_of hd from (head_of s) (ask.Bind s.x (is_include s.goal) avoid) (Reply.Bound z) T.before → is_include s.goal ≡ false) →
         was_called h (name w.label) n ≡ true
     bound_told n avoid z at is says = called_so n run.0 run.1 (named_told n frame.Bound (sym T.node ∙ ap (λ y. node_at y) at)
         (ap (λ y. frame_kind (response a y)) is) refl)
       where
         run : (o : Op) × (s.goal ≡ Run o)
-        run = runs_so s.goal (says (subst (λ y. says_of from (head_of s) y (Reply.Bound z) T.before)
+        run = runs_so s.goal (says (subst (λ y. says_of hd from (head_of s) y (Reply.Bound z) T.before)
             (bind_is T.ask s.x (is_include s.goal) avoid (T.same ∙ (λ j. ask_at s.x s.goal [] (at j))))
-            (subst (λ y. says_of from (head_of s) T.ask y T.before) is T.so)))
+            (subst (λ y. says_of hd from (head_of s) T.ask y T.before) is T.so)))
 
     -- what changed, in a call, where a binding has one server
     pub changed_so : ((x old : Known) (st : ObjectState) → s.at ≡ AtActivate x st → kept ≡ Some old →
@@ -389,8 +393,8 @@ module _ (hd : Header) (k : ℕ) (M : Moment) (h : Here) (header : h.header ≡ 
         so : (from ≡ 1) × (list_any (λ asked. meets 1 (top_path s.path) (entry s.x) asked v m T.before) (entry_modes
             (is_include s.goal)) ≡ true)
             × (has_upper (acts T.before) v ≡ true)
-        so = subst (λ z. says_of from (head_of s) z (Reply.Bound (bound.Conflict v m)) T.before) request
-            (subst (λ z. says_of from (head_of s) T.ask z T.before) is T.so)
+        so = subst (λ z. says_of hd from (head_of s) z (Reply.Bound (bound.Conflict v m)) T.before) request
+            (subst (λ z. says_of hd from (head_of s) T.ask z T.before) is T.so)
 
         upper : IsTopAction c.begun v
         upper = upper_from c.begun (acts M.seen.lines) c.alike v (ap (λ ls. has_upper (acts ls) v) T.are
@@ -431,32 +435,53 @@ module _ (hd : Header) (k : ℕ) (M : Moment) (h : Here) (header : h.header ≡ 
         by true = refl
         by false = λ j. met j || meets_at_store h c.act q s.x v m from
 
-    -- a store's conflict
-    store_so : (x : Known) (n : ℕ) (rest : List ℕ) (v : Uid) (m : Mode) → s.at ≡ AtLoad x n rest → r ≡ Reply.Loaded (loaded.InDoubt v) →
-        m ≡ mode.Write → came_from_store h (name w.label) v m from ≡ true
-    store_so x n rest v m at is write = λ i. same_mode (write i) mode.Write
-        && row_so (λ y z. answered h z.at y.uid.node from (frame.Loaded ∷ []) (λ before. may_be_pending from v before))
-        (found_at frame.Loaded (ap (λ z. frame_kind (response a z)) is) refl (λ before. may_be_pending from v before) so) i
+    -- a store's conflict, with one whose commit was called
+    pub store_so : HeaderInForm hd → ((v : Uid) (ls ms : List Line) → M.seen.lines ≡ ls ++ ms → IsCalledAt ls v →
+        is_on (uids_of s.path) v ≡ false) → (x : Known) (n : ℕ) (rest : List ℕ) (v : Uid) (m : Mode) → s.at ≡ AtLoad x n rest →
+        r ≡ Reply.Loaded (loaded.InDoubt v) → m ≡ mode.Write → came_from_store h (name w.label) v m from ≡ true
+    store_so form off x n rest v m at is write = λ i. same_mode (write i) mode.Write && (known v T.before T.after T.are began_then i
+        && row_so (λ y z. not (is_on (uids z.path) v) && holds_in (λ o. answered h z.at y.uid.node from (frame.Loaded ∷ [])
+        (may_be_in_doubt h.header from v o)) (object_used z.event)) (λ j. (ap not (ap (λ us. is_on us v) its_path ∙ off v T.before T.after
+        T.are called)) j && (ap (holds_in (λ o. answered h (let z = q in z.at) (let y = c.act.uid in y.node) from (frame.Loaded ∷ [])
+        (may_be_in_doubt h.header from v o))) used ∙ found) j) i)
       where
         request : T.ask ≡ ask.Load s.x
         request = load_is T.ask s.x (T.same ∙ (λ j. ask_at s.x s.goal [] (at j)))
 
-        so : may_be_pending from v T.before ≡ true
-        so = subst (λ z. says_of from (head_of s) z (Reply.Loaded (loaded.InDoubt v)) T.before) request
-            (subst (λ z. says_of from (head_of s) T.ask z T.before) is T.so)
+        so : (may_be_pending from v T.before ≡ true) × (HeaderInForm hd → may_store hd T.before from s.x ≡ true)
+        so = subst (λ z. says_of hd from (head_of s) z (Reply.Loaded (loaded.InDoubt v)) T.before) request
+            (subst (λ z. says_of hd from (head_of s) T.ask z T.before) is T.so)
+
+        called : IsCalledAt T.before v
+        called = by (called_at T.before v) refl so.0
+          where
+            by : (o : Option (Placed (List Act))) → called_at T.before v ≡ o →
+                holds_in (λ (z : Placed (List Act)). may_pend from v false (drop z.at T.before)) o ≡ true → IsCalledAt T.before v
+            by None none e = absurd (cc e)
+            by (Some z) some e = (z, some)
+
+        began_then : has_act (acts T.before) v ≡ true
+        began_then = let a = called_act T.before v called in any_in (λ (y : Act). uid_eq y.uid v) a.0 (acts T.before) a.1
+            (ap (λ z. uid_eq z v) a.2 ∙ uid_same v)
+
+        found : answered h (let z = q in z.at) (let y = c.act.uid in y.node) from (frame.Loaded ∷ []) (may_be_in_doubt h.header from v s.x)
+            ≡ true
+        found = found_at frame.Loaded (ap (λ z. frame_kind (response a z)) is) refl (may_be_in_doubt h.header from v s.x)
+            (λ i. (ap (λ z. may_store z T.before from s.x) header ∙ so.1 form) i && so.0 i)
 
     -- any conflict's line
-    pub conflict_so : (v : Uid) (m : Mode) (n : ℕ) → IsConflict s.at r v m n →
+    pub conflict_so : HeaderInForm hd → ((v : Uid) (ls ms : List Line) → M.seen.lines ≡ ls ++ ms → IsCalledAt ls v →
+        is_on (uids_of s.path) v ≡ false) → (v : Uid) (m : Mode) (n : ℕ) → IsConflict s.at r v m n →
         (conflict_caused h (name w.label) v m n || came_from_store h (name w.label) v m n) ≡ true
-    conflict_so v m n (ByNaming avoid at is one) =
+    conflict_so form off v m n (ByNaming avoid at is one) =
         let its : n ≡ from = one ∙ ap (λ z. node_at z) (sym at) ∙ T.node in
         λ i. (ap (conflict_caused h (name w.label) v m) its ∙ naming_so avoid v m at is) i || came_from_store h (name w.label) v m n
-    conflict_so v m n (ByServer x i at is one) =
+    conflict_so form off v m n (ByServer x i at is one) =
         let its : n ≡ from = one ∙ ap (λ z. node_at z) (sym at) ∙ T.node in
         λ j. (ap (conflict_caused h (name w.label) v m) its ∙ server_so x i v m at is) j || came_from_store h (name w.label) v m n
-    conflict_so v m n (ByStore x y rest at is write one) =
+    conflict_so form off v m n (ByStore x y rest at is write one) =
         let its : n ≡ from = one ∙ ap (λ z. node_at z) (sym at) ∙ T.node in
-        by (conflict_caused h (name w.label) v m n) (ap (came_from_store h (name w.label) v m) its ∙ store_so x y rest v m at is write)
+        by (conflict_caused h (name w.label) v m n) (ap (came_from_store h (name w.label) v m) its ∙ store_so form off x y rest v m at is write)
       where
         by : (b : Bool) → came_from_store h (name w.label) v m n ≡ true → (b || came_from_store h (name w.label) v m n) ≡ true
         by true it = refl

@@ -29,6 +29,10 @@ use Rattle.arj_model.specs.Past.{Past}
 use Rattle.arj_law_cause.proofs.kinds.Nodes.{wide_all}
 use Rattle.arj_law_cause.proofs.rows.{Inside.inside_step, Telling.served_says, Telling.silent_front, Telling.table_then}
 use Rattle.arj_law_cause.proofs.rows.Pending.{StoresPend, pending_keep}
+use Rattle.arj_law_cause.proofs.rows.Stores.{StoresAreKnown, stored_keep}
+use Rattle.arj_law_promise.proofs.Terms.{Keeps, keeps_given, kept_both}
+use Rattle.arj_law_parts.proofs.moves.Flat.{post}
+use Rattle.arj_model.specs.CausePends.{may_store}
 use Rattle.arj_law_promise.proofs.settling.{Stills.IsRight}
 use Rattle.arj_law_cause.specs.rows.{Runs.RunsMeetRows, Says.may_be_pending, Says.says_so, Tables.Inside, Tables.Tables}
 
@@ -62,21 +66,25 @@ steps_both hd P Q p q = record {
 
 -- ---- what is known between events
 
--- outcomes, and what stores have prepared
-abbrev pub Right : Seen → Type 0
-Right S = IsRight S × StoresPend S
+-- outcomes, what stores have prepared, and which nodes may be stores
+abbrev pub Right : Header → Seen → Type 0
+Right hd S = (IsRight S × StoresPend S) × StoresAreKnown hd S
+
+right_keep : (hd : Header) → Keeps hd (Right hd)
+right_keep hd = kept_both hd (λ S. IsRight S × StoresPend S) (StoresAreKnown hd) (pending_keep hd)
+    (keeps_given hd (λ S. IsRight S × StoresPend S) (StoresAreKnown hd) (stored_keep hd))
 
 abbrev pub Base : Seen → Type 0
 Base S = (begun : List Action) × KnownOf begun S
 
-abbrev pub Core : Moment → Type 0
-Core M = ((Wide Known M × Wide Base M) × Wide Right M) × AnswersAreMade says_so M
+abbrev pub Core : Header → Moment → Type 0
+Core hd M = ((Wide Known M × Wide Base M) × Wide (Right hd) M) × AnswersAreMade (says_so hd) M
 
 -- ---- inside of an event
 
 -- tables show locks, and answers say what is so
 abbrev pub InEvent : Header → List Line → ℕ → Moment → Type 0
-InEvent hd before event M = (Tables hd before event M × Wide Right M) × AnswersAreMade says_so M
+InEvent hd before event M = (Tables hd before event M × Wide (Right hd) M) × AnswersAreMade (says_so hd) M
 
 module _ (hd : Header) (before : List Line) (event : ℕ) (early : (j : ℕ) → (event == up_of j before) ≡ false) where
   pub tables_step : KeepsSteps hd (Tables hd before event)
@@ -84,7 +92,7 @@ module _ (hd : Header) (before : List Line) (event : ℕ) (early : (j : ℕ) →
       (steps_both hd (Wide Known) (Wide (Showing hd (length before) event)) (let k = known_wide hd in k.steps)
       (wide_steps hd ⊤ (Showing hd (length before) event) (showing_kept hd (length before) event ⊤ tt))) (inside_step before event hd)
 
-  tells : Tells (λ M. Tables hd before event M × Wide Right M) says_so
+  tells : Tells (λ M. Tables hd before event M × Wide (Right hd) M) (says_so hd)
   tells k d t v from m h a r front M both there other meant asking new is =
       let known = both.0 in
       let s = known.0.1 in
@@ -98,12 +106,14 @@ module _ (hd : Header) (before : List Line) (event : ℕ) (early : (j : ℕ) →
       silent in
       served_says hd before event early k d t v from h r front (lines_behind M.past.number front M.seen.lines) shown.0 shown.1
       l.place (λ u none held. subst (λ es. may_be_pending k u (lines_behind M.past.number es M.seen.lines) ≡ true) (sym none)
-      (both.1.2.1 k n u (λ i. if same_number k i then Some (record { number = k; disk = d; live = Some t }) else M.seen.nodes k) held))
-      a new served
+      (both.1.2.0.1 k n u (λ i. if same_number k i then Some (record { number = k; disk = d; live = Some t }) else M.seen.nodes k) held))
+      a new (λ x same none form. subst (λ es. may_store hd (lines_behind M.past.number es M.seen.lines) k x ≡ true) (sym none)
+      (let z = both.1.2.1.1 in z.loads (post from k m) h x (both.1.1 (post from k m) there)
+      (asking ∙ ap (λ y. Some (h, y)) same) form)) served
 
   pub event_step : KeepsSteps hd (InEvent hd before event)
-  event_step = answers_step hd says_so (λ M. Tables hd before event M × Wide Right M)
-      (steps_both hd (Tables hd before event) (Wide Right) tables_step (let k = wide_all hd Right (pending_keep hd) in k.steps))
+  event_step = answers_step hd (says_so hd) (λ M. Tables hd before event M × Wide (Right hd) M)
+      (steps_both hd (Tables hd before event) (Wide (Right hd)) tables_step (let k = wide_all hd (Right hd) (right_keep hd) in k.steps))
       (λ M h. h.0.0.0) tells
 
 -- ---- events
@@ -151,10 +161,10 @@ pub record Beside (hd : Header) (P : Moment → Type 0) (I : List Line → ℕ �
 module _ (hd : Header) (P : Moment → Type 0) (I : List Line → ℕ → Moment → Type 0) (beside : Beside hd P I) where
   -- what holds between events
   abbrev Rest : Moment → Type 0
-  Rest M = Core M × P M
+  Rest M = Core hd M × P M
 
   pub record StandsSo (g : History) (w : World) : Type 0 where
-    pub holds : HoldsWith hd (λ M. Core M × P M) g w
+    pub holds : HoldsWith hd (λ M. Core hd M × P M) g w
     pub shown : IsShown hd w
 
   module _ (g : History) (w : World) (h : StandsSo g w) where
@@ -178,7 +188,7 @@ module _ (hd : Header) (P : Moment → Type 0) (I : List Line → ℕ → Moment
     pub opened_so : (e : Event) → w.over ≡ false → HoldsAt hd (I w.lines (w.event + 1)) (come e g) (counted w)
     opened_so e over =
         let o = opens_at hd Rest Rest (λ f M first number c.
-        ((c.0.0, made_opens says_so f M first number c.0.1), beside.opens f M first number c.1)) e g w
+        ((c.0.0, made_opens (says_so hd) f M first number c.0.1), beside.opens f M first number c.1)) e g w
         over h.holds in
         record {
           sent = o.sent;
@@ -208,7 +218,7 @@ module _ (hd : Header) (P : Moment → Type 0) (I : List Line → ℕ → Moment
     closed_so : Closes (I w.lines (w.event + 1)) Rest
     closed_so bodies M number lines c =
         let k = beside.knows w.lines (w.event + 1) M c in (
-          (((k.0.0.0.0, (let s = k.0.0.0.1 in (s.0, s.1, (s.2.0, s.2.1)))), k.0.1), made_closes says_so bodies M number lines k.1),
+          (((k.0.0.0.0, (let s = k.0.0.0.1 in (s.0, s.1, (s.2.0, s.2.1)))), k.0.1), made_closes (says_so hd) bodies M number lines k.1),
           beside.leaves w.lines (w.event + 1) bodies M number lines c,
         )
 
@@ -240,9 +250,9 @@ module _ (hd : Header) (P : Moment → Type 0) (I : List Line → ℕ → Moment
                         (body.Limit which.Labels ∷ [])
                         (seen.with_sent b.0 M.seen) refl (shows (seen.with_sent b.0 M.seen) refl refl b.2)) in (b.0, b.1, (r.0, r.1))),
                   ),
-                  (let k = wide_all hd Right (pending_keep hd) in (let q = k.steps in q.quiet (body.Limit which.Labels ∷ []) M refl c.0.1)),
+                  (let k = wide_all hd (Right hd) (right_keep hd) in (let q = k.steps in q.quiet (body.Limit which.Labels ∷ []) M refl c.0.1)),
                 ),
-                made_later says_so M (said (body.Limit which.Labels ∷ []) M) (record {
+                made_later (says_so hd) M (said (body.Limit which.Labels ∷ []) M) (record {
                   more = numbered M.past.number (body.Limit which.Labels ∷ []);
                   lines = refl;
                   askings = refl;
@@ -337,9 +347,9 @@ module _ (hd : Header) (P : Moment → Type 0) (I : List Line → ℕ → Moment
                 ([], (λ p i. i), (let k = known_wide hd in k.first st formed)),
                 ([], (λ p i. i), (let s = first_showing hd 0 st formed in (s.0, s.1))),
               ),
-              (let k = wide_all hd Right (pending_keep hd) in k.first st formed),
+              (let k = wide_all hd (Right hd) (right_keep hd) in k.first st formed),
             ),
-            first_made hd says_so st formed,
+            first_made hd (says_so hd) st formed,
           ),
           first,
         );

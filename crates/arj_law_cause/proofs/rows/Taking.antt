@@ -6,6 +6,7 @@ use Words.{Ask, Asked, Header, Line, Message, Uid, name, Reply, actor, answers, 
 use Words.{ask_kind, next_ask, next_node, waits_for_call, Steps, Calling, Doing, doing_of, Disk, Parts, Node, at_place, is_own, Contains}
 use Words.{AtActivate, Binding, Coord, End, Keeping, Kind, ObjectState, binding_eq, binding_number, is_serial, kept_at, kept_of}
 use Words.{no_keeping, no_root, root_at, root_of}
+use Words.{Branch, Committing, Idle, Now, branch_of, is_committing_now, is_on, plan_of, uids_of}
 use Words.ask
 use Words.calls
 use Words.kind
@@ -23,6 +24,8 @@ use Rattle.arj_law_lock_view.specs.moments.Made.{AnswersAreMade, AnswersTo, Begi
 use Rattle.arj_law_parts.proofs.moves.{Flat.post, Happens.Wide}
 use Rattle.arj_law_parts.proofs.parts.LivesNamed.{all_at, keyed_at}
 use Rattle.arj_law_parts.specs.parts.Lives.{Homes, IsAtSo, IsKeptSo, IsKnownSo, IsNowSo, IsRootSo, KnowsServers, Reach}
+use Rattle.arj_law_parts.proofs.parts.{GoodTrees.over_below, TrueSteps.work_there}
+use Rattle.arj_law_parts.specs.parts.{Copies.IsTree, Coords.IsGoodCoord, Coords.IsVoting}
 use Rattle.arj_law_parts.specs.moves.Moments.{Asking, Moment, up}
 use Rattle.arj_law_parts.specs.moves.Seen as seen
 use Rattle.arj_law_runs.proofs.calls.WholeRuns.{WhileFew, home_in, is_home}
@@ -37,6 +40,10 @@ use Rattle.arj_law_runs.specs.kept.Worlds.{IsGood}
 use Rattle.arj_model.specs.Actions.{halts, is_halted, path}
 use Rattle.arj_model.specs.Past.{label_of}
 use Rattle.arj_model.specs.Refusals.{has_ended, is_over_act}
+use Rattle.arj_journal.specs.ScriptForm.{HeaderInForm}
+use Rattle.arj_law_lock_view.proofs.view.TreeSteps.{above_there}
+use Rattle.arj_law_runs.specs.journal.{Book.new_book, Right.AreRight}
+use Rattle.arj_law_cause.proofs.rows.Pending.{IsCalledAt, called_book}
 use Rattle.arj_law_cause.proofs.waits.lost.Bound.{ReplyFull, says_full}
 use Rattle.arj_law_cause.specs.rows.Says.{says_of, says_so}
 
@@ -87,9 +94,10 @@ pub record Works (hd : Header) (k : ℕ) (d : Disk) (t : Parts) (M : Moment) : T
   pub known : Wide Known (up k d t M)
   pub all : Wide KnowsAll (up k d t M)
   pub addressed : Wide (AreAddressed hd) (up k d t M)
-  pub made : AnswersAreMade says_so (up k d t M)
+  pub made : AnswersAreMade (says_so hd) (up k d t M)
   pub full : AnswersAreMade says_full (up k d t M)
   pub lives : Wide (WhileFew IsGood) (up k d t M)
+  pub form : HeaderInForm hd
 
 -- The action that waits, in the journal's words: it's open, has one more asked than answered, and waits for that.
 pub record IsCaller (k : ℕ) (M : Moment) (u : Uid) (w : Doing) (s : Steps) : Type 0 where
@@ -122,7 +130,7 @@ pub record IsTaken (hd : Header) (k from : ℕ) (M : Moment) (s : Steps) (q : As
   pub are : M.seen.lines ≡ before ++ after
   pub late : (let e = q.asked in e.at) ≤ length before
   pub framed : (from ≡ k) ⊎ BeginsWith from k (frame_kind (response a r)) after
-  pub so : says_of from (head_of s) ask r before
+  pub so : says_of hd from (head_of s) ask r before
 
 module _ (hd : Header) (k : ℕ) (d : Disk) (t : Parts) (M : Moment) (W : Works hd k d t M) (u : Uid) (w : Doing) (s : Steps)
     (found : doing_of u t.coord ≡ Some w) (is : w.now ≡ Calling s) where
@@ -156,6 +164,75 @@ module _ (hd : Header) (k : ℕ) (d : Disk) (t : Parts) (M : Moment) (W : Works 
 
   pub call : IsTied M.past.askings M.seen.lines u w (Some s)
   call = subst (IsTied M.past.askings M.seen.lines u w) (ap calling is) (own_of k d t M W.tied u w found)
+
+  -- whose commit was called isn't on the path of one that asks
+  pub off_called : (v : Uid) (ls ms : List Line) → M.seen.lines ≡ ls ++ ms → IsCalledAt ls v → is_on (uids_of s.path) v ≡ false
+  off_called v ls ms are at = by (is_on (uids_of s.path) v) refl
+    where
+      begun : List Action
+      begun = W.paths.2.0
+
+      good : IsGoodCoord begun (paths_of begun) t.coord
+      good = knows.coord
+
+      tree : IsTree (paths_of begun)
+      tree = begun_tree begun (let g = W.paths.2.1.1.0 in g.begun)
+
+      right : AreRight new_book M.seen.lines
+      right = let z = W.paths.2.1.1.2 in z.right
+
+      called : is_on (let B = book M.seen.lines in B.called) v ≡ true
+      called = called_book M.seen.lines right ls ms are v at
+
+      above : is_on (uids_of s.path) v ≡ true → ⊥
+      above on = opened (is_some (let c = branch.0 in c.ended)) refl
+        where
+          over_path : is_on (paths_of begun u) v ≡ true
+          over_path = ap (λ us. is_on us v) (sym (good.tree.lists.paths_are u asking.branch asking.found))
+              ∙ ap (λ p. is_on (uids_of p) v) asking.path ∙ on
+
+          branch : (c : Branch) × (branch_of v t.coord.tree ≡ Some c)
+          branch = above_there (paths_of begun) tree t.coord.tree good.tree.lists v u asking.branch asking.found over_path
+
+          doing : (q : Doing) × (doing_of v t.coord ≡ Some q)
+          doing = work_there t.coord (let i = its_up in let f = i.faithful in f.works) v branch.0 branch.1
+
+          never : {A : Type 0} {b : Bool} → b ≡ true → b ≡ false → A
+          never holds fails = let no_way : true ≡ false = sym holds ∙ fails in absurd (cc no_way)
+
+          none_of : (o : Option End) → is_some o ≡ false → o ≡ None
+          none_of None e = refl
+          none_of (Some x) e = absurd (cc e)
+
+          opened : (b : Bool) → is_some (let c = branch.0 in c.ended) ≡ b → ⊥
+          opened true over = never (over_below (paths_of begun) tree t.coord.tree good.tree.lists good.tree.closed v branch.0 branch.1 over u
+              asking.branch asking.found over_path) asking.opened
+          opened false open_yet = committing (let q = doing.0 in q.now) refl
+            where
+              now : is_committing_now (let q = doing.0 in q.now) ≡ true
+              now = sym (let n = knows.knows in n.calls v branch.0 doing.0 branch.1 doing.1 (none_of (let c = branch.0 in c.ended) open_yet))
+                  ∙ called
+
+              committing : (n : Now) → (let q = doing.0 in q.now) ≡ n → ⊥
+              committing Idle at_it = never now (ap is_committing_now at_it)
+              committing (Calling z) at_it = never now (ap is_committing_now at_it)
+              committing (Committing m) at_it = never (ap (λ (z : Branch). is_some z.ended) (some_is (sym asking.found ∙ its.1)) ∙ its.2)
+                  asking.opened
+                where
+                  votes : IsVoting t.coord.tree v (plan_of m)
+                  votes = subst (IsBusy t.coord.tree v) at_it (good.busy v doing.0 doing.1)
+
+                  other : u ≡ v → ⊥
+                  other same = let one : w ≡ doing.0 = some_is (sym found ∙ ap (λ z. doing_of z t.coord) same ∙ doing.1) in
+                      let no_way : Calling s ≡ Committing m = sym is ∙ ap (λ (z : Doing). z.now) one ∙ at_it in absurd (cc no_way)
+
+                  its : (b : Branch) × (branch_of u t.coord.tree ≡ Some b) × (is_some b.ended ≡ true)
+                  its = votes.over u (votes.below u asking.branch asking.found
+                      (ap (λ us. is_on us v) (good.tree.lists.paths_are u asking.branch asking.found) ∙ over_path) other)
+
+      by : (b : Bool) → is_on (uids_of s.path) v ≡ b → b ≡ false
+      by false e = refl
+      by true e = absurd (above e)
 
   pub caller : IsCaller k M u w s
   caller = record {
@@ -275,7 +352,7 @@ module _ (hd : Header) (k : ℕ) (d : Disk) (t : Parts) (M : Moment) (W : Works 
   module _ (from : ℕ) (m : Message) (sent_it : seen.In (post from k m) M.seen.sent) (a : Asked) (r : Reply) (answer : answers m ≡ Some
       (a, r))
       (act : a.act ≡ u) (waits : waits_for_call from a r s ≡ true) where
-    ans : AnswersTo says_so ⊥ (up k d t M) from k a r
+    ans : AnswersTo (says_so hd) ⊥ (up k d t M) from k a r
     ans = W.made.sent (post from k m) a r sent_it answer
 
     parts : ((s.req == a.req) ≡ true) × (((reply_kind r == ask_kind (next_ask [] s)) ≡ true) × ((next_node s == from) ≡ true))
@@ -318,7 +395,7 @@ module _ (hd : Header) (k : ℕ) (d : Disk) (t : Parts) (M : Moment) (W : Works 
           late = z.behind c.asking c.there (c.act ∙ sym asker) (low c.first);
           framed = ⊎_elim (λ here. inl here) (λ f. inr (⊎_elim {C = BeginsWith from k (frame_kind (response a r)) z.after}
               (λ b. subst (λ x. BeginsWith from k (frame_kind (response x r)) z.after) ans.2 b) (λ never. absurd never) f)) z.framed;
-          so = subst (λ h. says_of from h ans.1 r z.before) (let o = of_step in o.head) z.so;
+          so = subst (λ h. says_of hd from h ans.1 r z.before) (let o = of_step in o.head) z.so;
         }
       where
         low : {n : ℕ} → n ≤ w.req → n ≤ (let h = ans.0 in h.req)

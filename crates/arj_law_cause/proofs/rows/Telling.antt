@@ -41,6 +41,8 @@ use Rattle.arj_protocol.specs.Laws.{naming_rows}
 use Rattle.arj_law_cause.proofs.rows.Inside.{handle_starts}
 use Rattle.arj_law_cause.proofs.rows.Holders.{begun_act, entry_upper, upper_act}
 use Rattle.arj_law_cause.proofs.rows.Meeting.{Meets, bind_meets, bind_writes, invoke_meets, invoke_runs, lock_by, meets_by}
+use Rattle.arj_journal.specs.ScriptForm.{HeaderInForm}
+use Rattle.arj_model.specs.CausePends.{may_store}
 use Rattle.arj_law_cause.specs.rows.{Says.has_upper, Says.says_of, Says.may_be_pending, Tables.Inside}
 use Rattle.arj_law_parts.proofs.parts.LivesNamed.{all_found}
 use Terms.{IsEntryRow}
@@ -273,11 +275,11 @@ module _ (hd : Header) (before : List Line) (event : ℕ) (early : (j : ℕ) →
 
     invoked_says : (x : ℕ) (b : Binding) (i : ℕ) (ends : List (Uid × End)) (o : Op) →
         is_again h (ask.Invoke x b i ends o) t.server ≡ false →
-        Sent (serve k d t from h (ask.Invoke x b i ends o)) → says_of k h (ask.Invoke x b i ends o) r lines
+        Sent (serve k d t from h (ask.Invoke x b i ends o)) → says_of hd k h (ask.Invoke x b i ends o) r lines
     invoked_says x b i ends o new is = by (server.invoke k h x b i ends o t.server).reply refl is
       where
         says : (q : InvokedReply) → (server.invoke k h x b i ends o t.server).reply ≡ Some q → After x b i ends o ≡ v →
-            says_of k h (ask.Invoke x b i ends o) (Reply.Invoked q) lines
+            says_of hd k h (ask.Invoke x b i ends o) (Reply.Invoked q) lines
         says (invoked.Answered a) at same =
             lock_by k (actor h.path) (object x) (op_mode o) lines (server_rows x (let w = After x b i ends o in w.server))
             (shown.server x ∙ ap (λ (z : Parts). server_rows x z.server) (sym same)) (invoke_runs k h x ends o a b i t.server new at)
@@ -293,25 +295,25 @@ module _ (hd : Header) (before : List Line) (event : ℕ) (early : (j : ℕ) →
 
         by : (f : Option InvokedReply) → (server.invoke k h x b i ends o t.server).reply ≡ f →
             Sent (sends_answer from h (After x b i ends o) (server.invoke k h x b i ends o t.server).outs (option_map Reply.Invoked f)) →
-            says_of k h (ask.Invoke x b i ends o) r lines
+            says_of hd k h (ask.Invoke x b i ends o) r lines
         by None at e = let no_way : Void [] ≡ Took v (front ++ Send from (response (asked_by h) r) ∷ []) = e in absurd (cc no_way)
         by (Some q) at e = let z = replied (After x b i ends o) (server.invoke k h x b i ends o t.server).outs (Reply.Invoked q) e in
-            subst (λ y. says_of k h (ask.Invoke x b i ends o) y lines) (sym z.0) (says q at z.1)
+            subst (λ y. says_of hd k h (ask.Invoke x b i ends o) y lines) (sym z.0) (says q at z.1)
 
     bound_says : (x : ℕ) (include : Bool) (avoid : Binding) → Sent (serve k d t from h (ask.Bind x include avoid)) →
-        says_of k h (ask.Bind x include avoid) r lines
+        says_of hd k h (ask.Bind x include avoid) r lines
     bound_says x include avoid is = with_it t.naming refl is
       where
         named : (o : Naming) → t.naming ≡ Some o →
             Sent (served from h (with_naming t) Reply.Bound (naming.bind h.path x include avoid d.names o)) →
-            says_of k h (ask.Bind x include avoid) r lines
+            says_of hd k h (ask.Bind x include avoid) r lines
         named o there e = by (naming.bind h.path x include avoid d.names o).reply refl e
           where
             one : (k == 1) ≡ true
             one = sym place ∙ ap is_some there
 
             says : (q : BoundReply) → (naming.bind h.path x include avoid d.names o).reply ≡ Some q → Bound x include avoid o ≡ v →
-                says_of k h (ask.Bind x include avoid) (Reply.Bound q) lines
+                says_of hd k h (ask.Bind x include avoid) (Reply.Bound q) lines
             says (bound.Live b s i g stores) at same = bind_kind h.path x include avoid d.names o (bound.Live b s i g stores) at
             says (bound.Make b s g stores) at same = bind_kind h.path x include avoid d.names o (bound.Make b s g stores) at
             says (bound.Write g stores) at same =
@@ -335,39 +337,43 @@ module _ (hd : Header) (before : List Line) (event : ℕ) (early : (j : ℕ) →
             by : (f : Option BoundReply) → (naming.bind h.path x include avoid d.names o).reply ≡ f →
                 Sent (sends_answer from h (Bound x include avoid o) (naming.bind h.path x include avoid d.names o).outs
                 (option_map Reply.Bound f)) →
-                says_of k h (ask.Bind x include avoid) r lines
+                says_of hd k h (ask.Bind x include avoid) r lines
             by None at e = let no_way : Void [] ≡ Took v (front ++ Send from (response (asked_by h) r) ∷ []) = e in absurd (cc no_way)
             by (Some q) at e =
                 let z = replied (Bound x include avoid o) (naming.bind h.path x include avoid d.names o).outs (Reply.Bound q) e in
-                subst (λ y. says_of k h (ask.Bind x include avoid) y lines) (sym z.0) (says q at z.1)
+                subst (λ y. says_of hd k h (ask.Bind x include avoid) y lines) (sym z.0) (says q at z.1)
 
         with_it : (f : Option Naming) → t.naming ≡ f →
             Sent (if_naming (λ o. served from h (with_naming t) Reply.Bound (naming.bind h.path x include avoid d.names o)) f) →
-            says_of k h (ask.Bind x include avoid) r lines
+            says_of hd k h (ask.Bind x include avoid) r lines
         with_it None there e = let no_way : Void [] ≡ Took v (front ++ Send from (response (asked_by h) r) ∷ []) = e in absurd (cc no_way)
         with_it (Some o) there e = named o there e
 
-    loaded_says : (x : ℕ) → Sent (serve k d t from h (ask.Load x)) → says_of k h (ask.Load x) r lines
-    loaded_says x is = by (holder_of (object x) d.store) refl is
+    loaded_says : (x : ℕ) → (front ≡ [] → HeaderInForm hd → may_store hd lines k x ≡ true) →
+        Sent (serve k d t from h (ask.Load x)) → says_of hd k h (ask.Load x) r lines
+    loaded_says x stores is = by (holder_of (object x) d.store) refl is
       where
-        held : (o : Option ObjectState) → Sent (load_held from h t o) → says_of k h (ask.Load x) r lines
+        held : (o : Option ObjectState) → Sent (load_held from h t o) → says_of hd k h (ask.Load x) r lines
         held None e = let no_way : Void (Do Look ∷ []) ≡ Took v (front ++ Send from (response (asked_by h) r) ∷ []) = e in absurd
             (cc no_way)
         held (Some s) e = let z = replied t (Do Look ∷ []) (Reply.Loaded (loaded.State s)) e in
-            subst (λ y. says_of k h (ask.Load x) y lines) (sym z.0) tt
+            subst (λ y. says_of hd k h (ask.Load x) y lines) (sym z.0) tt
 
-        by : (o : Option Uid) → holder_of (object x) d.store ≡ o → Sent (load_by x d.store from h t o) → says_of k h (ask.Load x) r lines
+        by : (o : Option Uid) → holder_of (object x) d.store ≡ o → Sent (load_by x d.store from h t o) → says_of hd k h (ask.Load x) r lines
         by None at e = held (held_at (object x) d.store) e
         by (Some u) at e = let z = replied t [] (Reply.Loaded (loaded.InDoubt u)) e in
-            subst (λ y. says_of k h (ask.Load x) y lines) (sym z.0) (doubts u (sym (init_is front (Send from (response (asked_by h) r)))
-            ∙ ap init_of (sym (ap outs_in e))) (holder_prepared (object x) u d.store at))
+            let none : front ≡ [] = sym (init_is front (Send from (response (asked_by h) r))) ∙ ap init_of (sym (ap outs_in e)) in
+            subst (λ y. says_of hd k h (ask.Load x) y lines) (sym z.0)
+            (doubts u none (holder_prepared (object x) u d.store at), λ form. stores none form)
 
-    pub served_says : (a : Ask) → is_again h a t.server ≡ false → Sent (serve k d t from h a) → says_of k h a r lines
-    served_says (ask.Invoke x b i ends o) new is = invoked_says x b i ends o new is
-    served_says (ask.Bind x include avoid) new is = bound_says x include avoid is
-    served_says (ask.Load x) new is = loaded_says x is
-    served_says (ask.Activate b st) new is = tt
-    served_says (ask.Record x b i g) new is = tt
-    served_says (ask.Vote i ties ends) new is = tt
-    served_says (ask.Prepare states) new is = tt
-    served_says (ask.Confirm grants excluded included) new is = tt
+    pub served_says : (a : Ask) → is_again h a t.server ≡ false →
+        ((x : ℕ) → a ≡ ask.Load x → front ≡ [] → HeaderInForm hd → may_store hd lines k x ≡ true) →
+        Sent (serve k d t from h a) → says_of hd k h a r lines
+    served_says (ask.Invoke x b i ends o) new stores is = invoked_says x b i ends o new is
+    served_says (ask.Bind x include avoid) new stores is = bound_says x include avoid is
+    served_says (ask.Load x) new stores is = loaded_says x (stores x refl) is
+    served_says (ask.Activate b st) new stores is = tt
+    served_says (ask.Record x b i g) new stores is = tt
+    served_says (ask.Vote i ties ends) new stores is = tt
+    served_says (ask.Prepare states) new stores is = tt
+    served_says (ask.Confirm grants excluded included) new stores is = tt

@@ -115,6 +115,7 @@ module _ (hd : Header) (form : HeaderInForm hd) (st : Start) where
     made = h.0.1;
     full = h.1.0.1.1.1.0.1;
     lives = h.1.0.1.1.1.1;
+    form = form;
   }
 
   pub its_beside : Beside hd Between Inner

@@ -1,5 +1,6 @@
 -- The lines that answer calls, against the causes that the journal has for them.
-use Rattle.std.specs.Prelude.{◌≡◌, ℕ, List, [], ◌∷◌, Bool, true, ◌&&◌, ◌||◌}
+use Rattle.std.specs.Prelude.{◌≡◌, ℕ, List, [], ◌∷◌, Bool, true, ◌&&◌, ◌||◌, not}
+use Rattle.arj_base.specs.Rows.{is_on}
 use Rattle.arj_base.specs.declared.mode.Mode.{Mode}
 use Rattle.arj_base.specs.declared.uid.Uid.{Uid}
 use Rattle.arj_base.specs.declared.mode.Mode.TheVariants.{Write}
@@ -9,19 +10,24 @@ use Rattle.arj_journal.specs.declared.body.FrameKind.TheVariants as frame
 use Rattle.arj_journal.specs.declared.event.Event.{Event}
 use Rattle.arj_journal.specs.declared.header.Header.{Header}
 use Rattle.arj_text.specs.Label.{name}
+use Rattle.arj_model.specs.Actions.{uids}
 use Rattle.arj_model.specs.CauseAnswers.{was_told}
 use Rattle.arj_model.specs.Past.{Past}
-use Rattle.arj_model.specs.CauseSpans.{Here, answered, asks_so, here_at, is_call, same_mode}
+use Rattle.arj_model.specs.CauseSpans.{Here, act_by, answered, asks_so, here_at, holds_in, is_call, same_mode}
 use Rattle.arj_model.specs.Caused.{has_cause}
 use Rattle.arj_model.specs.Follows.{Runs}
+use Rattle.arj_model.specs.Refusals.{object_used}
 use Rattle.arj_law_runs.specs.follow.Frames.{are_so, run_events}
-use Rattle.arj_law_cause.specs.rows.Says.{may_be_pending}
+use Rattle.arj_law_cause.specs.rows.Says.{may_be_in_doubt}
 use Rattle.arj_promise.specs.Runs.{IsInForm, Run, journal_by}
 
--- a store answered what was asked with a conflict, over a write, with an action of which a state may have been prepared there then
+-- A store answered what was asked with a conflict, over a write, with an action that began, and isn't on the path of the one that asked. It
+-- may be a store of what was asked, and a state of that action may have been prepared there then.
 abbrev pub came_from_store : Here → List ℕ → Uid → Mode → ℕ → Bool
 came_from_store h l u held n = same_mode held Write
-    && asks_so h l (λ a k. answered h k.at a.uid.node n (frame.Loaded ∷ []) (λ before. may_be_pending n u before))
+    && (holds_in (λ a. true) (act_by h.lines u)
+    && asks_so h l (λ a k. not (is_on (uids k.path) u)
+    && holds_in (λ x. answered h k.at a.uid.node n (frame.Loaded ∷ []) (may_be_in_doubt h.header n u x)) (object_used k.event)))
 
 -- a call was asked, and what changed was found at the action's node, or by naming there, or in an answer to it
 abbrev pub was_called : Here → List ℕ → ℕ → Bool

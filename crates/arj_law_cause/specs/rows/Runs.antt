@@ -7,4 +7,4 @@ use Rattle.arj_law_cause.specs.rows.Says.{says_so}
 
 -- each answer that was sent was made at a place of the journal, and a conflict says which row was met in the table there, as the first one
 abbrev pub RunsMeetRows : Type 0
-RunsMeetRows = (hd : Header) (r : Run hd) → HoldsWith hd (AnswersAreMade says_so) (past_of hd r) (world_by hd r)
+RunsMeetRows = (hd : Header) (r : Run hd) → HoldsWith hd (AnswersAreMade (says_so hd)) (past_of hd r) (world_by hd r)

@@ -3,13 +3,14 @@ use Rattle.std.specs.Prelude.{⊤, ◌≡◌, ℕ, Bool, true, false, List, [], 
 use Rattle.std.specs.List.{list_any}
 use Rattle.arj_base.specs.Uid.{entry, object, uid_eq}
 use Rattle.arj_class.specs.Table.{op_mode}
+use Rattle.arj_journal.specs.ScriptForm.{HeaderInForm}
 use Rattle.arj_model.specs.Actions.{Act, acts}
 use Rattle.arj_model.specs.CauseAnswers.{has_lock, meets}
-use Rattle.arj_model.specs.CausePends.{called_at, pends_step}
+use Rattle.arj_model.specs.CausePends.{called_at, may_store, pends_step}
 use Rattle.arj_model.specs.CauseSpans.{holds_in}
 use Rattle.arj_protocol.specs.Ask.{Reply, actor, top_of, top_path}
 use Rattle.arj_protocol.specs.Tree.{is_nested}
-use Rattle.arj_protocol.specs.Words.{Ask, Head, Line, Mode, Uid, uids_of}
+use Rattle.arj_protocol.specs.Words.{Ask, Head, Header, Line, Mode, Uid, uids_of}
 use Rattle.arj_protocol.specs.Words.ask
 use Rattle.arj_protocol.specs.Words.bound
 use Rattle.arj_protocol.specs.Words.invoked
@@ -37,24 +38,30 @@ may_pend n u on (line ∷ rest) = may_pend n u (pends_step true n u line.body on
 abbrev pub may_be_pending : ℕ → Uid → List Line → Bool
 may_be_pending n u lines = holds_in (λ m. may_pend n u false (drop m.at lines)) (called_at lines u)
 
+-- so it may of a state of this object, of which the node may be a store
+abbrev pub may_be_in_doubt : Header → ℕ → Uid → ℕ → List Line → Bool
+may_be_in_doubt header n u x lines = may_store header lines n x && may_be_pending n u lines
+
 -- A conflict: at a server the call, and at naming its top, meets the row of this holder in this mode, an action that began, at naming no
 -- nested one. Where a server answers with what the operation gives, the action has its lock; naming names a binding to no include; and
--- where it lets one go on, its top has the entry's write lock. Where a store is in doubt, a state of whom it names may be prepared there.
-abbrev pub says_of : ℕ → Head → Ask → Reply → List Line → Type 0
-says_of n h (ask.Invoke x b i ends o) (Reply.Invoked (invoked.Conflict u m)) before =
+-- where it lets one go on, its top has the entry's write lock. Where a store is in doubt, a state of whom it names may be prepared there,
+-- and it may be a store of the object, if the header is in form.
+abbrev pub says_of : Header → ℕ → Head → Ask → Reply → List Line → Type 0
+says_of hd n h (ask.Invoke x b i ends o) (Reply.Invoked (invoked.Conflict u m)) before =
     (meets n (uids_of h.path) (object x) (op_mode o) u m before ≡ true) × (has_act (acts before) u ≡ true)
-says_of n h (ask.Invoke x b i ends o) (Reply.Invoked (invoked.Answered a)) before =
+says_of hd n h (ask.Invoke x b i ends o) (Reply.Invoked (invoked.Answered a)) before =
     has_lock n (actor h.path) (object x) (op_mode o) before ≡ true
-says_of n h (ask.Bind x include avoid) (Reply.Bound (bound.Conflict u m)) before =
+says_of hd n h (ask.Bind x include avoid) (Reply.Bound (bound.Conflict u m)) before =
     (n ≡ 1) × (list_any (λ asked. meets 1 (top_path h.path) (entry x) asked u m before) (entry_modes include) ≡ true)
     × (has_upper (acts before) u ≡ true)
-says_of n h (ask.Bind x include avoid) (Reply.Bound (bound.Live b server i g stores)) before = include ≡ false
-says_of n h (ask.Bind x include avoid) (Reply.Bound (bound.Make b server g stores)) before = include ≡ false
-says_of n h (ask.Bind x include avoid) (Reply.Bound (bound.Write g stores)) before =
+says_of hd n h (ask.Bind x include avoid) (Reply.Bound (bound.Live b server i g stores)) before = include ≡ false
+says_of hd n h (ask.Bind x include avoid) (Reply.Bound (bound.Make b server g stores)) before = include ≡ false
+says_of hd n h (ask.Bind x include avoid) (Reply.Bound (bound.Write g stores)) before =
     has_lock 1 (top_of h.path) (entry x) mode.Write before ≡ true
-says_of n h (ask.Load x) (Reply.Loaded (loaded.InDoubt u)) before = may_be_pending n u before ≡ true
-says_of n h a r before = ⊤
+says_of hd n h (ask.Load x) (Reply.Loaded (loaded.InDoubt u)) before =
+    (may_be_pending n u before ≡ true) × (HeaderInForm hd → may_store hd before n x ≡ true)
+says_of hd n h a r before = ⊤
 
 -- so it is of an answer
-abbrev pub says_so : Saying
-says_so a before = says_of (let z = a in z.from) (let z = a in z.head) (let z = a in z.ask) (let z = a in z.reply) before
+abbrev pub says_so : Header → Saying
+says_so hd a before = says_of hd (let z = a in z.from) (let z = a in z.head) (let z = a in z.ask) (let z = a in z.reply) before
