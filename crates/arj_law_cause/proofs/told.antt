@@ -3,3 +3,4 @@ pub mod Assembled
 pub mod Joined
 pub mod Telling
 pub mod Together
+pub mod Every

@@ -43,7 +43,7 @@ run_ends : JournalsTell → (hd : Header) (moves : List Move) (plan : Plan) (tra
 run_ends tells hd moves plan trace end has s run =
     let told = tells hd (from_format hd moves) run.form in
     let follows : Runs (Step hd) fresh (run_events hd (from_format hd moves)) (journal_by hd (from_format hd moves)) =
-    let events = told.events in events.follows in
+    told.follows in
     let quiet : EndsQuiet trace = subst EndsQuiet (sym s.whole) (ends_quiet s.front s.lines) in
     let traced : TraceHas (Step hd) (at_start fresh) trace =
     run_has (Step hd) trace (journal_by hd (from_format hd moves))

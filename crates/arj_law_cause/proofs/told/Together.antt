@@ -19,7 +19,7 @@ use Rattle.arj_start.specs.Start.{Start}
 
 -- ---- no event writes a line that stands behind all events
 
-abbrev AreInside : List Body → Type 0
+abbrev pub AreInside : List Body → Type 0
 AreInside bs = AllByRecursion (λ b. is_ending b ≡ false) bs
 
 never_ends : (e : Event) (b : Body) → may_stand e b ≡ true → is_ending b ≡ false
@@ -117,7 +117,7 @@ module _ (hd : Header) (p : Past) where
   own_inside event.Quiesce own its = none own its
   own_inside (event.Show x) own its = none own its
 
-  step_inside : (e : Event) (bodies : List Body) → Step hd p e bodies → AreInside bodies
+  pub step_inside : (e : Event) (bodies : List Body) → Step hd p e bodies → AreInside bodies
   step_inside e bodies s = ⊎_elim (by (refusal hd p e)) (λ d. one bodies _ refl d.line) s.lines
     where
       by : (o : Option ℕ) → MatchOption o (Accepted hd p e bodies) (λ c. bodies ≡ body.Refused c ∷ []) → AreInside bodies
