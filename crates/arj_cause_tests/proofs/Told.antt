@@ -289,7 +289,7 @@ limit = refl
 quiet : failing_of is_quiet (without 47 conflict_pending) ≡ 62 ∷ []
 quiet = refl
 
--- `undone`, `told`, `served`, `entries` and `copies`: `WrongShows.antt`
+-- `undone`, `told`, `entries` and `copies`: `WrongShows.antt`
 
 -- ---- lines in form
 

@@ -12,9 +12,8 @@ use Rattle.arj_model.specs.CauseSpans.{Here, behind, here_at}
 use Rattle.arj_model.specs.Caused.{has_cause}
 use Rattle.arj_model.specs.Past.{Past, at_start, next}
 use Rattle.arj_start.specs.Start.{Start, fresh}
-use Rattle.arj_law_cause.specs.kinds.Kinds.{is_abort_done, is_copy_shown, is_entry_shown, is_told, is_told_by_server}
+use Rattle.arj_law_cause.specs.kinds.Kinds.{is_abort_done, is_copy_shown, is_entry_shown, is_told}
 use Rattle.arj_law_cause.specs.kinds.Rows.{tested}
-use Rattle.arj_law_cause.specs.kinds.Tests.{is_told_so}
 use Rattle.arj_cause_tests.proofs.Words.{Run, Wrote, after, instead, lacking, nodes, object_line, run, u}
 use Rattle.arj_cause_tests.proofs.Worked.{conflict, exclusion, lost_lock, nested_abort, rebinding}
 
@@ -42,11 +41,7 @@ abbrev copies : Start → Run → List ℕ
 copies = failing has_cause is_copy_shown
 
 abbrev tolds : Run → List ℕ
-tolds = failing is_told_so is_told fresh
-
--- ends that servers say they were told, without their cause
-abbrev served : Run → List ℕ
-served = failing has_cause is_told_by_server fresh
+tolds = failing has_cause is_told fresh
 
 -- aborts that are done without their cause
 abbrev undone : Run → List ℕ
@@ -123,14 +118,22 @@ copy_late = refl
 
 -- ---- ends
 
-tolds_so : tolds nested_abort ++ (tolds conflict ++ tolds exclusion) ≡ []
+tolds_so : tolds nested_abort ++ (tolds conflict ++ (tolds exclusion ++ (tolds rebinding ++ tolds lost_lock))) ≡ []
 tolds_so = refl
 
 told_commit : tolds (instead 41 (body.Told 3 (u 1 1 1) Commit part.Server) rebinding) ≡ 41 ∷ []
 told_commit = refl
 
-told_abort : tolds (instead 12 (body.Told 1 (u 1 1 1) Abort part.Server) nested_abort) ≡ 12 ∷ []
+-- where the lock stands, its action open, no later one has it
+told_abort : tolds (instead 12 (body.Told 1 (u 1 1 1) Abort part.Server) nested_abort) ≡ 12 ∷ 19 ∷ []
 told_abort = refl
+
+-- no lock is left at the server, and none at naming
+told_nothing : tolds (after 26 (body.Told 2 (u 1 1 1) Abort part.Server ∷ []) lost_lock) ≡ 27 ∷ []
+told_nothing = refl
+
+told_no_entry : tolds (after 26 (body.Told 2 (u 1 1 1) Abort part.Naming ∷ []) lost_lock) ≡ 27 ∷ []
+told_no_entry = refl
 
 undone_so : undone nested_abort ++ (undone conflict ++ (undone exclusion ++ undone rebinding)) ≡ []
 undone_so = refl
@@ -140,14 +143,3 @@ undone_open = refl
 
 undone_committed : undone (instead 31 (body.Done 2 (u 1 1 1) role.Store Abort) exclusion) ≡ 31 ∷ []
 undone_committed = refl
-
-served_so : served nested_abort ++ (served conflict ++ (served exclusion ++ (served rebinding ++ served lost_lock))) ≡ []
-served_so = refl
-
--- no lock is left there
-served_nothing : served (after 26 (body.Told 2 (u 1 1 1) Abort part.Server ∷ []) lost_lock) ≡ 27 ∷ []
-served_nothing = refl
-
--- and where it stands, its action open, no later one has a lock
-served_open : served (instead 12 (body.Told 1 (u 1 1 1) Abort part.Server) nested_abort) ≡ 12 ∷ 19 ∷ []
-served_open = refl

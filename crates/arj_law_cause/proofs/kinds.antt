@@ -6,8 +6,10 @@
 -- restarts (`Up`), and, with what is known of lines, of records that they find (`Recovered`). Of quiesces, by the lines that events write:
 -- what was asked is what was accepted (`Accepted`), so no action waits where every node is idle (`Waiting`, `Quiet`). Of ends that nodes
 -- hear of and of aborts that are done: whoever has ended where it began is over by the journal (`Over`), and of no other action does a
--- node say so (`Tells`, `Ended`, `Aborts`); and a server does where it has a lock of the action (`Rowed`, `Served`), and none
--- when it starts anew (`Anew`). Of locks on objects: a server grants one where the table has none against it (`Granted`), and
+-- node say so (`Tells`, `Ended`, `Aborts`); and a server or naming does where it has a lock of the action (`Rowed`, `Served`), of an
+-- entry that is
+-- found by its number (`Numbered`): when a node starts anew its server has none (`Anew`), and naming has those of its table (`AtNodes`,
+-- `Regained`). Of locks on objects: a server grants one where the table has none against it (`Granted`), and
 -- naming one on an entry (`Entries`), for what was asked (`Wanted`), and at no other message (`Others`). Of shows: they
 -- say what disks hold (`Held`), which are clean before them (`Shown`), and listed stores hold the last state also while the entry is in
 -- doubt (`Stored`). Of commits that are lost: the script gives up the action, whose commit is under way (`LostCommits`).
@@ -35,6 +37,9 @@ pub mod Held
 pub mod Stored
 pub mod Shown
 pub mod Anew
+pub mod Numbered
+pub mod AtNodes
+pub mod Regained
 pub mod Rowed
 pub mod Served
 pub mod Denied

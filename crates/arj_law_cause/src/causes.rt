@@ -1,7 +1,7 @@
 // Rows of causes: lines of the world, and what nodes do.
-ghost use Rattle.arj_law_cause.specs.kinds.Kinds.{is_abort_done, is_armed, is_bare_abort, is_commit_done, is_committed, is_copy_shown, is_denial, is_dropped, is_entry_prepared, is_entry_shown, is_found, is_got, is_granted_object, is_granted_entry, is_halted, is_limit, is_listed_abort, is_lost_commit, is_met_abort, is_opening, is_plain_refusal, is_prepared, is_quiet, is_sent, is_told, is_told_by_server, is_up, is_void};
+ghost use Rattle.arj_law_cause.specs.kinds.Kinds.{is_abort_done, is_armed, is_bare_abort, is_commit_done, is_committed, is_copy_shown, is_denial, is_dropped, is_entry_prepared, is_entry_shown, is_found, is_got, is_granted_object, is_granted_entry, is_halted, is_limit, is_listed_abort, is_lost_commit, is_met_abort, is_opening, is_plain_refusal, is_prepared, is_quiet, is_sent, is_told, is_up, is_void};
 ghost use Rattle.arj_law_cause.specs.kinds.Rows.{RowHolds, RowHoldsWhere, TestHolds};
-ghost use Rattle.arj_law_cause.specs.kinds.Tests.{is_granted_so, is_committed_so, is_prepared_so, is_told_so};
+ghost use Rattle.arj_law_cause.specs.kinds.Tests.{is_granted_so, is_committed_so, is_prepared_so};
 
 /// In every run in form, wherever it begins and wherever disks stop, each line of a frame has its cause by the events and the lines before
 /// it, row by row: a frame that is sent has the next number and goes from a node that is up, or from nobody where the script hands over
@@ -63,11 +63,12 @@ pub fn openings_have_causes()
 {}
 
 /// In every such run an abort is done, at a store or at naming, of an action that is over by the lines before, and of one that was decided
-/// only where the node had a cause. A server or naming says that it was told of an end of an action that ended so by the lines before: it is
-/// committed where the end is a commit, and over where it is an abort. It does nothing when it runs.
+/// only where the node had a cause. Where a server or naming says that it was told of an end, a lock of the action or of one below it stands
+/// in the table of its node, and the action ended so by the lines before: it is committed where the end is a commit, and over where it is an
+/// abort. It does nothing when it runs.
 pub fn ends_have_causes()
     ensures aborts { RowHolds is_abort_done }
-    ensures told { TestHolds is_told_so is_told }
+    ensures told { RowHolds is_told }
 {}
 
 /// In every such run a line `entry` stands in a show of its object, with the object's entry as the lines before the event say, counted from
@@ -76,12 +77,6 @@ pub fn ends_have_causes()
 pub fn shows_have_causes()
     ensures entries { RowHolds is_entry_shown }
     ensures copies { RowHolds is_copy_shown }
-{}
-
-/// In every such run, where a server says that it was told of an end, a lock of the action or of one below it stands in the table of its
-/// node, and the action ended so. It does nothing when it runs.
-pub fn told_servers_have_causes()
-    ensures told { RowHolds is_told_by_server }
 {}
 
 /// In every such run an event that is refused has the cause of its number, the lowest one that it has by the journal, or, where that has a

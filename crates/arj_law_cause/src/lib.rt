@@ -11,7 +11,7 @@
 //! `tables_agree_inside_events`, `answers_have_causes`, `answers_are_of_their_operations`; `frame_lines_have_causes`,
 //! `stops_have_causes`, `restarts_have_causes`, `limits_have_causes`, `openings_have_causes`, `plain_refusals_have_causes`,
 //! `denials_have_causes`, `commits_done_have_causes`, `quiesces_have_causes`, `recoveries_have_causes`, `ends_have_causes`,
-//! `shows_have_causes`, `told_servers_have_causes`, `locks_on_objects_are_free`, `locks_on_entries_are_free`, `bindings_have_causes`,
+//! `shows_have_causes`, `locks_on_objects_are_free`, `locks_on_entries_are_free`, `bindings_have_causes`,
 //! `copies_have_causes`, `locks_lowered_have_causes`, `lost_commits_have_causes`, `refused_commits_have_causes`,
 //! `preparations_have_causes`, `commits_are_called`; `messages_can_be_spelled`, `journals_are_in_form`; `journals_tell_how_nodes_are`,
 //! `quiesces_answer_who_waits`, `rounds_end_quiet`, `asked_alone_is_answered`.
@@ -38,7 +38,7 @@ pub use causes::{
     locks_on_objects_are_free, lost_commits_have_causes, openings_have_causes,
     plain_refusals_have_causes, preparations_have_causes, quiesces_have_causes,
     recoveries_have_causes, refused_commits_have_causes, restarts_have_causes, shows_have_causes,
-    stops_have_causes, told_servers_have_causes,
+    stops_have_causes,
 };
 pub use form::journals_are_in_form;
 pub use messages::messages_can_be_spelled;

@@ -14,13 +14,11 @@ use Rattle.arj_model.specs.Caused.{has_cause}
 use Rattle.arj_model.specs.Outcome.{has_cause_to_abort}
 use Rattle.arj_promise.specs.Outcome.{each_behind}
 use Rattle.arj_promise.specs.Runs.{journal_by}
-use Rattle.arj_law_cause.proofs.kinds.Committed.{IsDecided, committed_so, decided_line, right_lines}
 use Rattle.arj_law_cause.proofs.kinds.Ended.{IsOver, over_run}
 use Rattle.arj_law_cause.proofs.kinds.Lines.{tested_row}
 use Rattle.arj_law_cause.proofs.kinds.Over.{Ends}
-use Rattle.arj_law_cause.specs.kinds.Kinds.{is_abort_done, is_told}
-use Rattle.arj_law_cause.specs.kinds.Rows.{RowHolds, TestHolds, tested}
-use Rattle.arj_law_cause.specs.kinds.Tests.{is_told_so}
+use Rattle.arj_law_cause.specs.kinds.Kinds.{is_abort_done}
+use Rattle.arj_law_cause.specs.kinds.Rows.{RowHolds, tested}
 
 -- whoever a line says aborted is over by the lines before it
 abbrev pub is_over_by : Here → Body → Bool
@@ -101,32 +99,3 @@ abort_row hd r form =
     (ap (each_behind has_cause_to_abort []) (sym is) ∙ shows.aborts))
     hd r.start (run_events hd r)
     (over_run is_over_by is_abort_done quiet (λ k. refl) coord (λ u o how. refl) (λ n u. refl) (λ n i. refl) pass hd r form)
-
--- ---- ends that were told
-
-told_quiet : (b : Body) → is_quiet_line b ≡ true → is_told b ≡ false
-told_quiet (body.Told n u e p) is = absurd (cc is)
-told_quiet b is = refl
-
-told_coord : (b : Body) → is_coord_line b ≡ true → not (is_told b) ≡ true
-told_coord (body.Told n u e p) is = absurd (cc is)
-told_coord b is = refl
-
-told_pass : (h : Here) (b : Body) → IsOver (Ends h.lines) b → tested is_over_by (λ g. is_told) h b ≡ true
-told_pass h (body.Told n u ending.Abort p) its = its
-told_pass h (body.Told n u ending.Commit p) its = refl
-told_pass h b its = refl
-
-told_so : (h : Here) (b : Body) → is_told b ≡ true → IsDecided h.lines b → is_over_by h b ≡ true → is_told_so h b ≡ true
-told_so h (body.Told n u ending.Commit p) its k over = committed_so h u k.distinct k.caused
-told_so h (body.Told n u ending.Abort p) its k over = over
-told_so h b its k over = absurd (cc its)
-
-pub told_row : TestHolds is_told_so is_told
-told_row hd r form =
-    let lines = journal_by hd r in
-    let right = right_lines hd r in
-    tested_row IsDecided is_told is_over_by is_told_so told_so lines
-    (λ before line behind is. decided_line lines right before line behind is)
-    hd r.start (run_events hd r)
-    (over_run is_over_by is_told told_quiet (λ k. refl) told_coord (λ u o how. refl) (λ n u. refl) (λ n i. refl) told_pass hd r form)

@@ -1,12 +1,17 @@
--- Where a server says a line of an end it has a lock of the action or of one below it, and the table of its node has that row.
+-- Where a server or naming says a line of an end it has a lock of the action or of one below it, and the table of its node has that row.
 use Rattle.arj_law_parts.proofs.Words
 use Words.{⊤, ◌≡◌, ◌⊎◌, ◌<◌, ◌∙◌, ◌==◌, ◌&&◌, ◌||◌, ◌++◌, not, ℕ, Bool, true, false, cond, List, [], ◌∷◌, Option, Some, None, refl, sym, ap}
 use Words.{subst, inl, inr, ⊎_elim, arith, append_assoc, list_any, AllByRecursion, Contains, In, in_from, is_on, flat_map}
-use Words.{nat_cmp, is_eq, uid_eq, uid_is, Ask, Asked, Binding, Body, End, Head, InvokedReply, Line, Message, Op, Reply, Row, Uid, VotedReply}
-use Words.{What, answers, asks, at_number, at_uid, actor, asked_by, heard, last_end, object, response, Disk, Do, Effect, Say, Send, Did, Served}
-use Words.{did_nothing, either, reply, void, Naming, Pair, end_entries, end_lines, end_orphans, orphans, own_entries, told_new, AreOfActions, Handled, Parts, Took, Void, ack_told, end_states, handle, handle_answer}
-use Words.{handle_ask, handle_ends, handle_other, handle_told, heard_own, is_prepared, naming_told, numbered, option_map, rows_by, sends_answer}
-use Words.{serve, served, server_rows, store_told, with_coord, with_server, Copy, Kept, Server, apply_ends, changed_by, ends_in, end_new, end_one}
+use Words.{nat_cmp, is_eq, uid_eq, uid_is, Ask, Asked, Binding, Body, End, Head, InvokedReply, Line, Message, Op, Reply, Row, Uid}
+use Words.{VotedReply}
+use Words.{What, answers, asks, at_number, at_uid, actor, asked_by, entry, heard, last_end, object, response, Disk, Do, Effect, Say, Send}
+use Words.{Did, Served}
+use Words.{did_nothing, either, reply, void, Naming, Pair, end_entries, end_lines, end_orphans, orphans, own_entries, told_new}
+use Words.{AreOfActions, Handled, Parts, Took, Void, ack_told, end_states, handle, handle_answer}
+use Words.{handle_ask, handle_ends, handle_other, handle_told, heard_own, is_prepared, naming_told, numbered, option_map, rows_by}
+use Words.{sends_answer}
+use Words.{serve, served, server_rows, store_told, with_coord, with_server, Copy, Kept, Server, apply_ends, changed_by, ends_in, end_new}
+use Words.{end_one}
 use Words.{first_unbound, has_ended, invoke_copy, invoke_kept, invoke_new, invoke_now, is_below, is_told, on_copy, other_inc, rows_in_copy}
 use Words.{vote_now}
 use Words.ask
@@ -26,14 +31,15 @@ use Rattle.arj_law_serial.proofs.holding.Lines.{own_line}
 use Rattle.arj_model.specs.Table.{is_entry, is_in_part, table}
 use Rattle.arj_protocol.proofs.ServerTable.{one_end}
 use Rattle.arj_protocol.specs.Copy.{end_copy, holds}
-use Rattle.arj_protocol.specs.Laws.{rows_ended}
+use Rattle.arj_protocol.specs.Laws.{naming_rows, rows_ended}
 use Rattle.arj_law_cause.proofs.rows.Holders.{one_passes}
 use Rattle.arj_law_cause.proofs.kinds.Anew.{IsEmpty, one_empty}
+use Rattle.arj_law_cause.proofs.kinds.Numbered.{Rise, lock_found}
 use Rattle.arj_law_cause.proofs.kinds.Tells.{AskPrepares, SaysBy, asked_all, is_of_ends, other_all, replied, serve_all}
 
--- a line by which a server's locks go
+-- a line by which no locks go at an end
 abbrev pub is_free : Body → Bool
-is_free (body.Told n u f part.Server) = false
+is_free (body.Told n u f p) = false
 is_free b = true
 
 abbrev IsFreeLine : Body → Type 0
@@ -98,7 +104,8 @@ keyed_one n u e s keyed = by (is_told u s)
     each_keyed f [] keyed = tt
     each_keyed f (e ∷ es) keyed = (above f e.0 es keyed.0, each_keyed f es keyed.1)
 
-    by : (b : Bool) → AreKeyed (let t = (cond {A = Did Server} b (did_nothing s) (end_new n u (server.taken_end u e s) s)).part in t.objects)
+    by : (b : Bool) → AreKeyed (let t = (cond {A = Did Server} b (did_nothing s) (end_new n u (server.taken_end u e s) s)).part in
+        t.objects)
     by true = keyed
     by false = each_keyed (λ x. end_copy u (server.taken_end u e s)) s.objects keyed
 
@@ -110,7 +117,7 @@ no_end p c = in_from p [] c
 module _ (k e : ℕ) where
   -- the table has a row that goes with this line
   abbrev pub HasRow : List Line → Body → Type 0
-  HasRow ls (body.Told n u f part.Server) = list_any (λ row. is_in_part part.Server row && is_on row.holder u) (table n ls) ≡ true
+  HasRow ls (body.Told n u f p) = list_any (λ row. is_in_part p row && is_on row.holder u) (table n ls) ≡ true
   HasRow ls b = ⊤
 
   -- so it is of these effects, behind these lines
@@ -124,7 +131,7 @@ module _ (k e : ℕ) where
   AreFree es = AllByRecursion (SaidIn IsFreeLine) es
 
   free_row : (ls : List Line) (b : Body) → IsFreeLine b → HasRow ls b
-  free_row ls (body.Told n u f part.Server) is = absurd (cc is)
+  free_row ls (body.Told n u f p) is = absurd (cc is)
   free_row ls b is = tt
 
   free_rowed : (es : List Effect) (ls : List Line) → AreFree es → Rowed es ls
@@ -142,10 +149,6 @@ module _ (k e : ℕ) where
   stays (body.Told n u f part.Naming) = true
   stays (body.Done n u r f) = true
   stays b = false
-
-  stays_free : (b : Body) → stays b ≡ true → IsFreeLine b
-  stays_free (body.Told n u f part.Server) is = absurd (cc is)
-  stays_free b is = refl
 
   stays_table : (s : Server) (ls : List Line) (b : Body) → stays b ≡ true → IsTableOf s ls → IsTableOf s (ls ++ numbered e (b ∷ []))
   stays_table s ls b is t x = own_line k part.Server (object x) refl e b ls ∙ same b is ∙ t x
@@ -167,16 +170,84 @@ module _ (k e : ℕ) where
   IsStill (Do w) = ⊤
   IsStill (Send to m) = ⊥
 
+  -- what is done on a disk
+  abbrev is_done : Body → Bool
+  is_done (body.Done n u r f) = true
+  is_done b = false
+
+  abbrev IsDone : Effect → Type 0
+  IsDone (Say b) = is_done b ≡ true
+  IsDone (Do w) = ⊤
+  IsDone (Send to m) = ⊥
+
+  done_free : (b : Body) → is_done b ≡ true → IsFreeLine b
+  done_free (body.Done n u r f) is = refl
+  done_free b is = absurd (cc is)
+
+  done_stays : (b : Body) → is_done b ≡ true → stays b ≡ true
+  done_stays (body.Done n u r f) is = refl
+  done_stays b is = absurd (cc is)
+
+  -- the table of node 1 has naming's locks
+  abbrev pub NamesTable : Option Naming → List Line → Type 0
+  NamesTable None ls = ⊤
+  NamesTable (Some o) ls = (x : ℕ) → rows_on (entry x) (table 1 ls) ≡ naming_rows x o
+
+  done_names : (o : Option Naming) (ls : List Line) (b : Body) → is_done b ≡ true → NamesTable o ls → NamesTable o (ls ++ numbered e (b ∷
+      []))
+  done_names None ls b is t = tt
+  done_names (Some o) ls b is t = λ x. own_line 1 part.Naming (entry x) refl e b ls ∙ same x b is ∙ t x
+    where
+      same : (x : ℕ) (b : Body) → is_done b ≡ true → rows_by (holders_in (e == up_of 1 ls) (acts ls)) 1 part.Naming (entry x) b
+          (rows_on (entry x) (table 1 ls)) ≡ rows_on (entry x) (table 1 ls)
+      same x (body.Done n u r f) is = refl
+      same x b is = absurd (cc is)
+
   -- behind such effects it goes on as it would before them
-  behind : (s : Server) (es fs : List Effect) → AllByRecursion IsStill es → ((ls : List Line) → IsTableOf s ls → Rowed fs ls) →
-      (ls : List Line) → IsTableOf s ls → Rowed (es ++ fs) ls
-  behind s [] fs all rest ls t = rest ls t
-  behind s (Do w ∷ es) fs all rest ls t = behind s es fs all.1 rest ls t
-  behind s (Say b ∷ es) fs all rest ls t = (
-    free_row ls b (stays_free b all.0),
-    behind s es fs all.1 rest (ls ++ numbered e (b ∷ [])) (stays_table s ls b all.0 t),
+  behind : (T : List Line → Type 0) → ((ls : List Line) (b : Body) → is_done b ≡ true → T ls → T (ls ++ numbered e (b ∷ []))) →
+      (es fs : List Effect) → AllByRecursion IsDone es → ((ls : List Line) → T ls → Rowed fs ls) → (ls : List Line) → T ls → Rowed (es ++
+      fs) ls
+  behind T keep [] fs all rest ls t = rest ls t
+  behind T keep (Do w ∷ es) fs all rest ls t = behind T keep es fs all.1 rest ls t
+  behind T keep (Say b ∷ es) fs all rest ls t = (
+    free_row ls b (done_free b all.0),
+    behind T keep es fs all.1 rest (ls ++ numbered e (b ∷ [])) (keep ls b all.0 t),
   )
-  behind s (Send to m ∷ es) fs all rest ls t = absurd all.0
+  behind T keep (Send to m ∷ es) fs all rest ls t = absurd all.0
+
+  -- a row on this object is in the table
+  among : (p : Words.Part) (u o : Uid) → ((r : Row) → r.object ≡ o → is_in_part p r ≡ true) → (rows : List Row) (r : Row) →
+      In r (rows_on o rows) → is_on r.holder u ≡ true → list_any (λ row. is_in_part p row && is_on row.holder u) rows ≡ true
+  among p u o of [] r i on = absurd i
+  among p u o of (q ∷ rows) r i on = by (uid_eq q.object o) refl i (among p u o of rows r)
+    where
+      later : (b : Bool) → (b || true) ≡ true
+      later true = refl
+      later false = refl
+
+      or_later : list_any (λ row. is_in_part p row && is_on row.holder u) rows ≡ true →
+          ((is_in_part p q && is_on q.holder u) || list_any (λ row. is_in_part p row && is_on row.holder u) rows) ≡ true
+      or_later is = ap (λ b. (is_in_part p q && is_on q.holder u) || b) is ∙ later (is_in_part p q && is_on q.holder u)
+
+      by : (b : Bool) → uid_eq q.object o ≡ b → In r (cond b (q ∷ rows_on o rows) (rows_on o rows)) → (In r (rows_on o rows) →
+          is_on r.holder u ≡ true → list_any (λ row. is_in_part p row && is_on row.holder u) rows ≡ true) →
+          ((is_in_part p q && is_on q.holder u) || list_any (λ row. is_in_part p row && is_on row.holder u) rows) ≡ true
+      by false other i ih = or_later (ih i on)
+      by true same (inr i) ih = or_later (ih i on)
+      by true same (inl is) ih = λ i. (of q (uid_is q.object o same) i && here i) || list_any (λ row. is_in_part p row && is_on row.holder
+          u) rows
+        where
+          here : is_on q.holder u ≡ true
+          here = ap (λ (z : Row). is_on z.holder u) is ∙ on
+
+  -- where naming has a lock of the action, the table has that row
+  names_row : (o : Naming) (u : Uid) → Rise o → naming.has_locks u o ≡ true → (ls : List Line) → NamesTable (Some o) ls → (f : End) →
+      HasRow ls (body.Told 1 u f part.Naming)
+  names_row o u rise has ls t f =
+      let l = lock_found u o.objects rise has in
+      let r = one_passes (λ (r : Row). is_on r.holder u) (rows_on (entry l.0) (table 1 ls))
+      (ap (list_any (λ (r : Row). is_on r.holder u)) (t l.0) ∙ l.1) in
+      among part.Naming u (entry l.0) (λ q same. ap is_entry same) (table 1 ls) r.0 r.1 r.2
 
   -- where a server has a lock of the action, the table has that row
   row_of : (s : Server) (u : Uid) → AreKeyed s.objects → server.has_locks u s ≡ true → (ls : List Line) → IsTableOf s ls →
@@ -185,31 +256,7 @@ module _ (k e : ℕ) where
       let o = found u s.objects keyed has in
       let r = one_passes (λ (r : Row). is_on r.holder u) (rows_on (object o.0) (table k ls))
       (ap (list_any (λ (r : Row). is_on r.holder u)) (t o.0) ∙ o.1) in
-      among (object o.0) refl (table k ls) r.0 r.1 r.2
-    where
-      among : (o : Uid) → is_entry o ≡ false → (rows : List Row) (r : Row) → In r (rows_on o rows) → is_on r.holder u ≡ true →
-          list_any (λ row. is_in_part part.Server row && is_on row.holder u) rows ≡ true
-      among o of [] r i on = absurd i
-      among o of (q ∷ rows) r i on = by (uid_eq q.object o) refl i (among o of rows r)
-        where
-          later : (b : Bool) → (b || true) ≡ true
-          later true = refl
-          later false = refl
-
-          or_later : list_any (λ row. is_in_part part.Server row && is_on row.holder u) rows ≡ true →
-              ((is_in_part part.Server q && is_on q.holder u) || list_any (λ row. is_in_part part.Server row && is_on row.holder u) rows) ≡ true
-          or_later is = ap (λ b. (is_in_part part.Server q && is_on q.holder u) || b) is ∙ later (is_in_part part.Server q && is_on q.holder u)
-
-          by : (b : Bool) → uid_eq q.object o ≡ b → In r (cond b (q ∷ rows_on o rows) (rows_on o rows)) → (In r (rows_on o rows) →
-              is_on r.holder u ≡ true → list_any (λ row. is_in_part part.Server row && is_on row.holder u) rows ≡ true) →
-              ((is_in_part part.Server q && is_on q.holder u) || list_any (λ row. is_in_part part.Server row && is_on row.holder u) rows) ≡ true
-          by false other i ih = or_later (ih i on)
-          by true same (inr i) ih = or_later (ih i on)
-          by true same (inl is) ih = λ i. (not ((ap is_entry (uid_is q.object o same) ∙ of) i) && here i)
-              || list_any (λ row. is_in_part part.Server row && is_on row.holder u) rows
-            where
-              here : is_on q.holder u ≡ true
-              here = ap (λ (z : Row). is_on z.holder u) is ∙ on
+      among part.Server u (object o.0) (λ q same. ap (λ z. not (is_entry z)) same) (table k ls) r.0 r.1 r.2
 
   -- what naming does at an end leaves them
   pub told_still : (u : Uid) (f : End) (p : Pair) (o : Naming) → AllByRecursion IsStill (naming.told u f p o).outs
@@ -240,26 +287,76 @@ module _ (k e : ℕ) where
       by false = all_append IsStill (end_orphans u (naming.taken_end u f o) p o) (end_lines u (naming.taken_end u f o) o)
           (gone (naming.taken_end u f o)) (line (naming.taken_end u f o) (naming.has_locks u o))
 
-  -- what a store and naming do at an end
-  fronts_still : (u : Uid) (f : End) (d : Disk) (t : Parts) →
-      AllByRecursion IsStill (store_told k u f d.store ++ (naming_told u f d.names t.naming).outs)
-  fronts_still u f d t = all_append IsStill (store_told k u f d.store) (naming_told u f d.names t.naming).outs (store f (is_prepared u d.store))
-      (named t.naming)
-    where
-      store : (f : End) (b : Bool) → AllByRecursion IsStill (cond b (end_states k u f) [])
-      store f false = tt
-      store ending.Abort true = (tt, (refl, tt))
-      store ending.Commit true = (tt, (refl, tt))
+  -- What a store and naming do at an end, where behind it goes on by what is kept by what is done, and by naming's line.
+  module _ (T : List Line → Type 0) (keep : (ls : List Line) (b : Body) → stays b ≡ true → T ls → T (ls ++ numbered e (b ∷ []))) (u : Uid)
+      (f : End) (fs : List Effect) (rest : (ls : List Line) → T ls → Rowed fs ls) where
+    abbrev Both : Option Naming → List Line → Type 0
+    Both o ls = T ls × NamesTable o ls
 
-      named : (o : Option Naming) → AllByRecursion IsStill (naming_told u f d.names o).outs
-      named None = tt
-      named (Some o) = told_still u f d.names o
+    keep_both : (o : Option Naming) (ls : List Line) (b : Body) → is_done b ≡ true → Both o ls → Both o (ls ++ numbered e (b ∷ []))
+    keep_both o ls b is t = (keep ls b (done_stays b is) t.0, done_names o ls b is t.1)
 
-  still_free : (es : List Effect) → AllByRecursion IsStill es → AreFree es
-  still_free [] all = tt
-  still_free (Do w ∷ es) all = (tt, still_free es all.1)
-  still_free (Say b ∷ es) all = (stays_free b all.0, still_free es all.1)
-  still_free (Send to m ∷ es) all = absurd all.0
+    ends_done : (v : Uid) (g : End) → AllByRecursion IsDone (end_entries v g)
+    ends_done v ending.Abort = (tt, (refl, tt))
+    ends_done v ending.Commit = (tt, (refl, tt))
+
+    told_names : (p : Pair) (o : Naming) → Rise o → (ls : List Line) → Both (Some o) ls → Rowed ((naming.told u f p o).outs ++ fs) ls
+    told_names p o rise ls t =
+        let d = cond {A = Did Naming} (is_on o.told u) (did_nothing o) (told_new u (naming.taken_end u f o) p o) in
+        subst (λ es. Rowed es ls) (sym (append_assoc (own_entries u f p) d.outs fs))
+        (behind (Both (Some o)) (keep_both (Some o)) (own_entries u f p) (d.outs ++ fs) (own (is_prepared u p)) (by (is_on o.told u)) ls t)
+      where
+        g : End
+        g = naming.taken_end u f o
+
+        own : (b : Bool) → AllByRecursion IsDone (cond b (end_entries u f) [])
+        own false = tt
+        own true = ends_done u f
+
+        each_done : (us : List Uid) → AllByRecursion IsDone (flat_map (λ act. end_entries act ending.Abort) us)
+        each_done [] = tt
+        each_done (a ∷ us) = all_append IsDone (end_entries a ending.Abort) (flat_map (λ act. end_entries act ending.Abort) us)
+            (ends_done a ending.Abort) (each_done us)
+
+        gone : (h : End) → AllByRecursion IsDone (end_orphans u h p o)
+        gone ending.Abort = each_done (orphans u p o)
+        gone ending.Commit = tt
+
+        line : (b : Bool) → naming.has_locks u o ≡ b → (ms : List Line) → Both (Some o) ms →
+            Rowed (cond b (Say (body.Told 1 u (naming.taken_end u f o) part.Naming) ∷ []) [] ++ fs) ms
+        line false is ms b = rest ms b.0
+        line true is ms b = (
+          names_row o u rise is ms b.1 (naming.taken_end u f o),
+          rest (ms ++ numbered e (body.Told 1 u (naming.taken_end u f o) part.Naming ∷ []))
+              (keep ms (body.Told 1 u (naming.taken_end u f o) part.Naming) refl b.0),
+        )
+
+        by : (b : Bool) (ms : List Line) → Both (Some o) ms →
+            Rowed ((cond {A = Did Naming} b (did_nothing o) (told_new u (naming.taken_end u f o) p o)).outs ++ fs) ms
+        by true ms b = rest ms b.0
+        by false ms b =
+            let first = end_orphans u (naming.taken_end u f o) p o in
+            let last = end_lines u (naming.taken_end u f o) o in
+            subst (λ es. Rowed es ms) (sym (append_assoc first last fs))
+            (behind (Both (Some o)) (keep_both (Some o)) first (last ++ fs) (gone (naming.taken_end u f o)) (line (naming.has_locks u o)
+            refl) ms b)
+
+    fronts_rowed : (d : Disk) (t : Parts) → ((o : Naming) → t.naming ≡ Some o → Rise o) → (ls : List Line) → T ls → NamesTable t.naming ls →
+        Rowed ((store_told k u f d.store ++ (naming_told u f d.names t.naming).outs) ++ fs) ls
+    fronts_rowed d t rise ls its names =
+        let o = (naming_told u f d.names t.naming).outs in
+        subst (λ es. Rowed es ls) (sym (append_assoc (store_told k u f d.store) o fs))
+        (behind (Both t.naming) (keep_both t.naming) (store_told k u f d.store) (o ++ fs) (store f (is_prepared u d.store))
+        (λ ms b. named t.naming refl ms b) ls (its, names))
+      where
+        store : (g : End) (b : Bool) → AllByRecursion IsDone (cond b (end_states k u g) [])
+        store g false = tt
+        store ending.Abort true = (tt, (refl, tt))
+        store ending.Commit true = (tt, (refl, tt))
+
+        named : (o : Option Naming) → t.naming ≡ o → (ms : List Line) → Both o ms → Rowed ((naming_told u f d.names o).outs ++ fs) ms
+        named None is ms b = rest ms b.0
+        named (Some o) is ms b = told_names d.names o (rise o is) ms b
 
   -- a server without objects says nothing of ends
   ends_free : (es : List (Uid × End)) (s : Server) → IsEmpty s → AreFree (apply_ends k es s).outs
@@ -333,7 +430,7 @@ module _ (k e : ℕ) where
   free_by (Took v outs) ls all = free_rowed outs ls all
 
   module _ (d : Disk) (t : Parts) (from : ℕ) (ls : List Line) (keyed : AreKeyed (let s = t.server in s.objects))
-      (shown : IsTableOf t.server ls) where
+      (shown : IsTableOf t.server ls) (rise : (o : Naming) → t.naming ≡ Some o → Rise o) (named : NamesTable t.naming ls) where
     abbrev Then : List Effect → Type 0
     Then outs = (fs : List Effect) → AreFree fs → Rowed (outs ++ fs) ls
 
@@ -404,8 +501,8 @@ module _ (k e : ℕ) where
     told_rowed : (ack : Bool) (es : List (Uid × End)) (u : Uid) (f : End) → AreOfActions es → RowedBy (handle_told k d t from ack es u f) ls
     told_rowed ack es u f of =
         subst (λ outs. Rowed outs ls) (sym (append_assoc fronts (apply_ends k es s).outs (ack_told from u ack)))
-        (behind s fronts ((apply_ends k es s).outs ++ ack_told from u ack) still
-        (λ ms shows. ends_rowed es s (ack_told from u ack) of keyed (acks ack) ms shows) ls shown)
+        (fronts_rowed (IsTableOf s) (stays_table s) u f ((apply_ends k es s).outs ++ ack_told from u ack)
+        (λ ms shows. ends_rowed es s (ack_told from u ack) of keyed (acks ack) ms shows) d t rise ls shown named)
       where
         s : Server
         s = t.server
@@ -416,9 +513,6 @@ module _ (k e : ℕ) where
         acks : (b : Bool) → AreFree (ack_told from u b)
         acks true = (tt, tt)
         acks false = tt
-
-        still : AllByRecursion IsStill fronts
-        still = fronts_still u f d t
 
     -- of what stands behind a request or an answer of another kind no line is of a server's end
     other_rowed : (m : Message) → AreOfActions (told_by m) → RowedBy (handle_other k d t from m) ls
@@ -452,7 +546,8 @@ module _ (k e : ℕ) where
         by (Some a) is = serve_rowed a.0 a.1 (subst (λ o. AreOfActions (brought_by o)) is brings)
 
   -- where nothing is asked or answered, at a server without objects
-  module _ (d : Disk) (t : Parts) (from : ℕ) (ls : List Line) (none : IsEmpty t.server) where
+  module _ (d : Disk) (t : Parts) (from : ℕ) (ls : List Line) (none : IsEmpty t.server) (rise : (o : Naming) → t.naming ≡ Some o → Rise o)
+      (named : NamesTable t.naming ls) where
     other_silent : (m : Message) → RowedBy (handle_other k d t from m) ls
     other_silent (message.Told m) = by (last_end m.ends)
       where
@@ -465,9 +560,10 @@ module _ (k e : ℕ) where
         by (Some p) =
             let fronts = store_told k p.0 p.1 d.store ++ (naming_told p.0 p.1 d.names t.naming).outs in
             let outs = (apply_ends k m.ends t.server).outs in
-            free_rowed ((fronts ++ outs) ++ ack_told from p.0 m.ack) ls (all_append (SaidIn IsFreeLine) (fronts ++ outs) (ack_told from p.0 m.ack)
-            (all_append (SaidIn IsFreeLine) fronts outs (still_free fronts (fronts_still p.0 p.1 d t)) (ends_free m.ends t.server none))
-            (acks p.0 m.ack))
+            subst (λ es. Rowed es ls) (sym (append_assoc fronts outs (ack_told from p.0 m.ack)))
+            (fronts_rowed (λ ms. ⊤) (λ ms b is its. tt) p.0 p.1 (outs ++ ack_told from p.0 m.ack) (λ ms its. free_rowed
+            (outs ++ ack_told from p.0 m.ack) ms (all_append (SaidIn IsFreeLine) outs (ack_told from p.0 m.ack)
+            (ends_free m.ends t.server none) (acks p.0 m.ack))) d t rise ls tt named)
     other_silent (message.Invoke m) = tt
     other_silent (message.Vote m) = tt
     other_silent m = free_by (handle_other k d t from m) ls (other_all IsFreeLine others_free k d t from m (record {

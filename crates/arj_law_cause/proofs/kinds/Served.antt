@@ -1,17 +1,17 @@
--- The row of servers' ends: where a server says that it was told, a lock of the action or of one below it is in the table
+-- The row of ends that were told: where a server or naming says that it was told, a lock of the action or of one below it is in the table
 -- of its node, and the action ended so.
 use Rattle.arj_law_parts.proofs.Words
 use Words.{⊤, ◌≡◌, ◌≤◌, ◌∙◌, ◌==◌, ◌&&◌, ◌||◌, ◌++◌, ◌+◌, not, ℕ, Bool, true, false, if◌then◌else◌, List, [], ◌∷◌, length, Some, None}
 use Words.{refl, sym, ap, subst, arith, inl, inr, ⊎_elim, and_parts, list_all, list_any, AllByRecursion, Contains, in_from, in_to, is_on}
 use Words.{uid_eq, nobody, Body, End, Event, Header, Line, Message, Start, Uid, Disk, Do, Effect, Say, Send, Handled, Parts}
-use Words.{Took, Void, handle, holders, query_about, AreAll, is_coord_effect, is_coord_line, acts as does, acts_own, again_all}
+use Words.{Naming, Option, Part, Took, Void, entry, eqb-true, handle, is_some, holders, query_about, AreAll, is_coord_effect}
+use Words.{is_coord_line, acts as does, acts_own, again_all}
 use Words.{again_own, all_both, begin_action, parent_of, restart_outs, tick_outs, tolds_again, tolds_again_own, World, Arm, Post, counted}
 use Words.{Seen, run_event, numbered, map}
 use Words.body
 use Words.ending
 use Words.event
 use Words.input
-use Words.part
 use Rattle.arj_law_parts.proofs.moves.Happens.{Wide, arms_hold, wide_steps}
 use Rattle.arj_law_parts.proofs.steps.Still.{Still, outs_of, says_still, taken_good}
 use Rattle.arj_law_parts.specs.moves.Moments as moments
@@ -23,7 +23,7 @@ use Rattle.arj_law_parts.specs.parts.Ends.{brought, told_by}
 use Rattle.arj_law_parts.specs.steps.Spoken.{SaidIn}
 use Rattle.arj_law_runs.proofs.kept.Walked.{same_number}
 use Rattle.arj_law_runs.specs.follow.Frames.{are_so, run_events}
-use Rattle.arj_law_serial.proofs.Terms.{ShowsLocks, is_steady, memory_of, up_from, up_of}
+use Rattle.arj_law_serial.proofs.Terms.{ShowsLocks, is_steady, memory_of, named_locks, rows_on, up_from, up_of}
 use Rattle.arj_law_serial.proofs.holding.{Events.IsShown, Events.event_shown, Events.first_is_shown, Events.later_off, Facts.on_path}
 use Rattle.arj_law_serial.proofs.holding.{Facts.someone, Lines.Since, Lines.since_all, Lines.ups_on, Messages.coord_or_steady}
 use Rattle.arj_law_serial.proofs.holding.Running.{Showing, showing_kept}
@@ -44,27 +44,29 @@ use Rattle.arj_law_cause.proofs.kinds.Ended.{IsOver, Known, known_all, message_e
 use Rattle.arj_law_cause.proofs.kinds.Lines.{tested_row}
 use Rattle.arj_law_cause.proofs.kinds.Over.{Ends, ends_quiet, ends_say}
 use Rattle.arj_law_cause.proofs.kinds.Anew.{IsAnew, anew_step}
-use Rattle.arj_law_cause.proofs.kinds.Rowed.{HasRow, IsTableOf, Rowed, RowedBy, message_rowed, silent_rowed}
+use Rattle.arj_law_cause.proofs.kinds.Numbered.{Rise}
+use Rattle.arj_law_cause.proofs.kinds.Regained.{AllRise, IsRegained, its_place, regained_step, rising_keep}
+use Rattle.arj_law_cause.proofs.kinds.Rowed.{HasRow, IsTableOf, NamesTable, Rowed, RowedBy, message_rowed, silent_rowed}
 use Rattle.arj_law_cause.proofs.kinds.Running.{Knows, row_run}
 use Rattle.arj_law_cause.proofs.kinds.Walks as walks
-use Rattle.arj_law_cause.specs.kinds.Kinds.{is_told_by_server}
+use Rattle.arj_law_cause.specs.kinds.Kinds.{is_told}
 use Rattle.arj_law_cause.specs.kinds.Rows.{RowHolds, RowStep, TestedStep, row, tested}
 
 -- ---- lines
 
--- a line of a server's end, and one by which a node starts anew
+-- a line of an end that was told, and one by which a node starts anew
 abbrev of : Body → Bool
-of (body.Told n u f part.Server) = true
+of (body.Told n u f p) = true
 of (body.Up n i) = true
 of b = false
 
 -- the table has the row
-abbrev has_row : Here → ℕ → Uid → Bool
-has_row h n u = list_any (λ row. is_in_part part.Server row && is_on row.holder u) (table n h.lines)
+abbrev has_row : Here → ℕ → Uid → Part → Bool
+has_row h n u p = list_any (λ row. is_in_part p row && is_on row.holder u) (table n h.lines)
 
 -- whoever is aborted is over, and the table has the row; and a node starts anew in a restart
 abbrev passes : Here → Body → Bool
-passes h (body.Told n u f part.Server) = is_over_by h (body.Told n u f part.Server) && has_row h n u
+passes h (body.Told n u f p) = is_over_by h (body.Told n u f p) && has_row h n u p
 passes h (body.Up n i) = is_restart h.event
 passes h b = true
 
@@ -76,9 +78,9 @@ quiet b is = refl
 no_halt : (k : ℕ) → of (body.Halted k) ≡ false
 no_halt k = refl
 
--- a line of no server's end
+-- a line of no end that was told
 abbrev is_free : Body → Bool
-is_free b = not (is_told_by_server b)
+is_free b = not (is_told b)
 
 coord_free : (b : Body) → is_coord_line b ≡ true → is_free b ≡ true
 coord_free (body.Told n u f p) is = absurd (cc is)
@@ -142,7 +144,8 @@ module _ (hd : Header) (st : Start) (q : Past) (e : Event) (w : World) (shown : 
 
   -- what is known in the event: tables show locks, but those of a node that starts anew in it, whose server is empty while it restarts
   abbrev InIt : Moment → Type 0
-  InIt M = Known hd M × (Wide (Showing hd (length w.lines) Number) M × IsAnew Number M)
+  InIt M = (Known hd M × (Wide (Showing hd (length w.lines) Number) M × IsAnew Number M))
+      × ((Known hd M × AllRise M) × (Wide (Showing hd (length w.lines) Number) M × IsRegained Number M))
 
   abbrev Inside : Moment → Type 0
   Inside = walks.Inside passes hd of quiet no_halt st q e
@@ -162,8 +165,8 @@ module _ (hd : Header) (st : Start) (q : Past) (e : Event) (w : World) (shown : 
   one_passes : (k : ℕ) (ls : List Line) (b : Body) → says_still (Say b) ≡ true → IsOver (Ends ls) b →
       HasRow k (q.count + 1) ls b → tested passes (λ g. of) (at ls) b ≡ true
   one_passes k ls (body.Up n i) still over row = absurd (cc still)
-  one_passes k ls (body.Told n u ending.Abort part.Server) still over row = λ i. over i && row i
-  one_passes k ls (body.Told n u ending.Commit part.Server) still over row = row
+  one_passes k ls (body.Told n u ending.Abort p) still over row = λ i. over i && row i
+  one_passes k ls (body.Told n u ending.Commit p) still over row = row
   one_passes k ls b still over row = refl
 
   begins_none : (b : Body) → is_steady b ≡ true → begun_of b ≡ None
@@ -201,12 +204,45 @@ module _ (hd : Header) (st : Start) (q : Past) (e : Event) (w : World) (shown : 
         ∙ same_start k Number (up_of k w.lines) h.wrote none)
         ∙ later_off (up_of k w.lines) w.event (shown.early k)
 
-    shown_now : (Number == up_of k M.seen.lines) ≡ false → IsTableOf k (q.count + 1) t.server M.seen.lines
-    shown_now off x =
-        let z = known.1.0.2.2 in
+    shows_now : (Number == up_of k M.seen.lines) ≡ false → ShowsLocks k M.seen.lines (Some t)
+    shows_now off =
+        let z = known.0.1.0.2.2 in
         let s : ShowsLocks k M.seen.lines (memory_of ((up k d t M).seen.nodes k)) = z.shown
         (subst (Since Number (length w.lines)) (sym lines_now) (since_all Number h.wrote w.lines)) k off in
-        (let r : ShowsLocks k M.seen.lines (Some t) = subst (ShowsLocks k M.seen.lines) here s in r.server x)
+        subst (ShowsLocks k M.seen.lines) here s
+
+    shown_now : (Number == up_of k M.seen.lines) ≡ false → IsTableOf k (q.count + 1) t.server M.seen.lines
+    shown_now off x = let r = shows_now off in r.server x
+
+    its_node : (let N = up k d t M in N.seen.nodes k) ≡ Some (record { number = k; disk = d; live = Some t })
+    its_node = λ i. if same_number k i then Some (record { number = k; disk = d; live = Some t }) else M.seen.nodes k
+
+    rises : (o : Naming) → t.naming ≡ Some o → Rise o
+    rises o has = known.1.0.1 k (record { number = k; disk = d; live = Some t }) t its_node refl o has
+
+    -- naming's table
+    module _ (all : (k == 1) ≡ true → (x : ℕ) → rows_on (entry x) (table 1 M.seen.lines) ≡ named_locks x t.naming) where
+      named_now : NamesTable k (q.count + 1) t.naming M.seen.lines
+      named_now = by t.naming refl
+        where
+          base : Wide (Showing hd 0 0) (up k d t M)
+          base = known.0.0.1
+
+          place : is_some t.naming ≡ (k == 1)
+          place = its_place hd 0 0 k d t M base
+
+          by : (o : Option Naming) → t.naming ≡ o → NamesTable k (q.count + 1) o M.seen.lines
+          by None is = tt
+          by (Some o) is = λ x. all (sym place ∙ ap (λ (z : Option Naming). is_some z) is) x ∙ ap (named_locks x) is
+
+    named_off : (Number == up_of k M.seen.lines) ≡ false → NamesTable k (q.count + 1) t.naming M.seen.lines
+    named_off off = named_now (λ one x. (let r = shows_now off in
+        (λ i. rows_on (entry x) (table (sym (eqb-true k 1 one) i) M.seen.lines)) ∙ r.naming x one))
+
+    named_new : moments.is_restart M.past.event ≡ true → (Number == up_of k M.seen.lines) ≡ true →
+        NamesTable k (q.count + 1) t.naming M.seen.lines
+    named_new r new = named_now (λ one x. known.1.1.1 k (record { number = k; disk = d; live = Some t }) t its_node refl one r
+        (h.number ∙ ap (λ n. n + 1) count_is) (ap (λ j. Number == up_of j M.seen.lines) (sym (eqb-true k 1 one)) ∙ new) x)
 
     rowed : (v : Parts) (from : ℕ) (m : Message) (outs : List Effect) →
         seen.In (record { from = from; to = k; message = m }) M.seen.sent → MayTake M.past.event m → handle k d t from m ≡ Took v outs →
@@ -219,17 +255,17 @@ module _ (hd : Header) (st : Start) (q : Past) (e : Event) (w : World) (shown : 
             let r : moments.is_restart M.past.event ≡ true = ap moments.is_restart h.event ∙ restart_is e restarts in
             let nothing = may r in
             subst (λ z. RowedBy k (q.count + 1) z M.seen.lines) is (silent_rowed k (q.count + 1) d t from M.seen.lines
-            (known.1.1 r k (record { number = k; disk = d; live = Some t }) t
+            (known.0.1.1 r k (record { number = k; disk = d; live = Some t }) t
             (λ i. if same_number k i then Some (record { number = k; disk = d; live = Some t }) else M.seen.nodes k) refl new)
-            m nothing.0 nothing.1)
+            rises (named_new r new) m nothing.0 nothing.1)
     rowed v from m outs there may is false off =
         subst (λ z. RowedBy k (q.count + 1) z M.seen.lines) is
-        (message_rowed k (q.count + 1) d t from M.seen.lines told.keys (shown_now off) m
+        (message_rowed k (q.count + 1) d t from M.seen.lines told.keys (shown_now off) rises (named_off off) m
         (all_ends (λ u. uid_eq nobody u ≡ false) (brought m) (λ u f c. of_past u (says.brings u f c)))
         (all_ends (λ u. uid_eq nobody u ≡ false) (told_by m) (λ u f c. of_past u (says.told u f c))))
       where
         base : Wide (Showing hd 0 0) (up k d t M)
-        base = known.0.1
+        base = known.0.0.1
 
         S : Seen
         S = seen.with_sent base.0 (let N = up k d t M in N.seen)
@@ -252,10 +288,11 @@ module _ (hd : Header) (st : Start) (q : Past) (e : Event) (w : World) (shown : 
   well : walks.SaysWell passes hd of quiet no_halt st q e InIt
   well = record {
     message = λ k d t v from m outs M known h there meant may is.
-        let r = message_ends hd k d t v from m outs M known.0 there is in
+        let r = message_ends hd k d t v from m outs M known.0.0 there is in
         ⊎_elim {C = Well outs M.seen.lines} (λ own. none_well outs M.seen.lines (coord_effects outs own))
         (λ steady. served_well k (Ends M.seen.lines) outs M.seen.lines r.1 steady
-        (subst (λ (x : Handled). Still (outs_of x)) ((λ i. if meant i then handle k d t from m else Void []) ∙ is) (taken_good k d t from m))
+        (subst (λ (x : Handled). Still (outs_of x)) ((λ i. if meant i then handle k d t from m else Void []) ∙ is) (taken_good k d t from
+        m))
         (rowed k d t M known h v from m outs there may is (Number == up_of k M.seen.lines) refl) (λ u its. its))
         (coord_or_steady k d t v r.0 from m outs is);
     act = λ k d t i M is brings fresh asks free known h. none_well (does i d.intents t.coord).outs M.seen.lines
@@ -277,7 +314,7 @@ module _ (hd : Header) (st : Start) (q : Past) (e : Event) (w : World) (shown : 
   }
     where
       in_restart : is_restart e ≡ true → (ms : List Line) (b : Body) → is_free b ≡ true → tested passes (λ g. of) (at ms) b ≡ true
-      in_restart restarts ms (body.Told n u f part.Server) is = absurd (cc is)
+      in_restart restarts ms (body.Told n u f p) is = absurd (cc is)
       in_restart restarts ms (body.Up n i) is = restarts
       in_restart restarts ms b is = refl
 
@@ -291,8 +328,13 @@ pub least : (n : ℕ) → n ≤ n
 least n = omega arith
 
 -- as an event comes no node started in it
-pub early_anew : (hd : Header) (w : World) → IsShown hd w → (g : History) (sent : List Post) → IsAnew (w.event + 1) (look g sent (counted w))
+pub early_anew : (hd : Header) (w : World) → IsShown hd w → (g : History) (sent : List Post) → IsAnew (w.event + 1) (look g sent (counted
+    w))
 early_anew hd w b g sent r j n t there its new = absurd (cc (sym (later_off (up_of j w.lines) w.event (b.early j)) ∙ new))
+
+early_regained : (hd : Header) (w : World) → IsShown hd w → (g : History) (sent : List Post) →
+    IsRegained (w.event + 1) (look g sent (counted w))
+early_regained hd w b g sent j n t there its one r num new x = absurd (cc (sym (later_off (up_of 1 w.lines) w.event (b.early 1)) ∙ new))
 
 -- what is known of worlds: tables show locks between events
 abbrev pub shown_knows : (hd : Header) → Knows hd (Known hd)
@@ -328,8 +370,30 @@ shown_knows hd = record {
   back = λ w M c. c.0;
 }
 
+-- and naming's objects rise, and in a restart node 1 has naming's locks in its table as it starts anew
+abbrev rowed_knows : (hd : Header) → Knows hd (λ M. Known hd M × AllRise M)
+rowed_knows hd = record {
+  Between = K.Between;
+  In = λ w M. K.In w M × ((Known hd M × AllRise M) × (Wide (Showing hd (length w.lines) (w.event + 1)) M × IsRegained (w.event + 1) M));
+  first = K.first;
+  next = K.next;
+  arms = K.arms;
+  opens = λ w e g sent b c. let o = K.opens w e g sent b c.0 in (o, (c, (o.1.0, early_regained hd w b (come e g) sent)));
+  steps = λ w b. let event = w.event + 1 in
+      steps_both hd (K.In w) (λ M. (Known hd M × AllRise M) × (Wide (Showing hd (length w.lines) event) M × IsRegained event M)) (K.steps
+      w b)
+      (steps_both hd (λ M. Known hd M × AllRise M) (λ M. Wide (Showing hd (length w.lines) event) M × IsRegained event M)
+      (let k = rising_keep hd in k.steps) (regained_step event hd (length w.lines) event
+      (wide_steps hd ⊤ (Showing hd (length w.lines) event) (showing_kept hd (length w.lines) event ⊤ tt))));
+  back = λ w M c. c.1.0;
+}
+  where
+    K : Knows hd (Known hd)
+    K = shown_knows hd
+
 -- lines of fewer kinds
-fewer_so : (test : Here → Body → Bool) (all some : Body → Bool) → ((b : Body) → some b ≡ true → all b ≡ true) → (h : Here) (bs : List Body) →
+fewer_so : (test : Here → Body → Bool) (all some : Body → Bool) → ((b : Body) → some b ≡ true → all b ≡ true) → (h : Here) (bs : List
+    Body) →
     are_so (tested test (λ g. all)) h bs ≡ true → are_so (tested test (λ g. some)) h bs ≡ true
 fewer_so test all some to h [] passed = refl
 fewer_so test all some to h (b ∷ bs) passed =
@@ -357,48 +421,48 @@ both_so true false its is to = absurd (cc is)
 both_so false row its is to = absurd (cc is)
 
 to_cause : (h : Here) (b : Body) → of b ≡ true → IsDecided h.lines b → passes h b ≡ true → told_or_starts h b ≡ true
-to_cause h (body.Told n u ending.Abort part.Server) its k is = both_so
-    (is_over_by h (body.Told n u ending.Abort part.Server)) (has_row h n u)
+to_cause h (body.Told n u ending.Abort p) its k is = both_so
+    (is_over_by h (body.Told n u ending.Abort p)) (has_row h n u p)
     (holds_in (λ a. has_end_of h.lines a ending.Abort) (act_by h.lines u)) is (λ over. over)
-to_cause h (body.Told n u ending.Commit part.Server) its k is = both_so true (has_row h n u)
+to_cause h (body.Told n u ending.Commit p) its k is = both_so true (has_row h n u p)
     (holds_in (λ a. has_end_of h.lines a ending.Commit) (act_by h.lines u)) is
     (λ over. committed_so h u k.distinct k.caused)
 to_cause h (body.Up n i) its k is = refl
 to_cause h b its k is = absurd (cc its)
 
-server_told : (b : Body) → is_told_by_server b ≡ true → of b ≡ true
-server_told (body.Told n u f part.Server) is = refl
-server_told b is = absurd (cc is)
+its_told : (b : Body) → is_told b ≡ true → of b ≡ true
+its_told (body.Told n u f p) is = refl
+its_told b is = absurd (cc is)
 
-told_so : (h : Here) (bs : List Body) → are_so (tested told_or_starts (λ g. is_told_by_server)) h bs ≡ true →
-    are_so (row (λ g. is_told_by_server)) h bs ≡ true
+told_so : (h : Here) (bs : List Body) → are_so (tested told_or_starts (λ g. is_told)) h bs ≡ true →
+    are_so (row (λ g. is_told)) h bs ≡ true
 told_so h [] all = refl
 told_so h (b ∷ bs) all =
-    let p = and_parts (tested told_or_starts (λ g. is_told_by_server) h b) (are_so (tested told_or_starts (λ g. is_told_by_server)) (behind h b) bs)
+    let p = and_parts (tested told_or_starts (λ g. is_told) h b) (are_so (tested told_or_starts (λ g. is_told)) (behind h b) bs)
     all in λ i. one b p.0 i && told_so (behind h b) bs p.1 i
   where
-    one : (b : Body) → tested told_or_starts (λ g. is_told_by_server) h b ≡ true → row (λ g. is_told_by_server) h b ≡ true
+    one : (b : Body) → tested told_or_starts (λ g. is_told) h b ≡ true → row (λ g. is_told) h b ≡ true
     one (body.Up n i) is = refl
     one b is = is
 
-told_along : (hd : Header) (es : List Event) (p end : Past) → Along (TestedStep told_or_starts (λ h. is_told_by_server) hd) p es end →
-    Along (RowStep (λ h. is_told_by_server) hd) p es end
+told_along : (hd : Header) (es : List Event) (p end : Past) → Along (TestedStep told_or_starts (λ h. is_told) hd) p es end →
+    Along (RowStep (λ h. is_told) hd) p es end
 told_along hd [] p end a = a
 told_along hd (e ∷ es) p end a = (a.0, told_so (here_at hd p e a.0) a.0 a.1, told_along hd es (next p e a.0) end a.2)
 
-pub served_row : RowHolds is_told_by_server
-served_row hd r form =
+pub told_row : RowHolds is_told
+told_row hd r form =
     let lines = journal_by hd r in
-    let keeps = known_all hd in
+    let keeps = rising_keep hd in
     let runs : Runs (TestedStep told_or_starts (λ h. of) hd) r.start (run_events hd r) lines =
     tested_row IsDecided of passes told_or_starts to_cause lines (decided_line lines (right_lines hd r))
     hd r.start (run_events hd r)
-    (row_run passes of quiet no_halt hd (Known hd) keeps (shown_knows hd)
+    (row_run passes of quiet no_halt hd (λ M. Known hd M × AllRise M) keeps (rowed_knows hd)
     (λ st q e w between lines count. well hd st q e w between lines count) r form) in (
       runs.0,
       runs.1,
       told_along hd (run_events hd r) (at_start r.start) runs.0
-          (fewer_along told_or_starts of is_told_by_server server_told hd (run_events hd r) (at_start r.start) runs.0 runs.2),
+          (fewer_along told_or_starts of is_told its_told hd (run_events hd r) (at_start r.start) runs.0 runs.2),
       runs.3,
       runs.4,
     )

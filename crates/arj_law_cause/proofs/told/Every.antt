@@ -4,7 +4,6 @@ use Words.{◌≡◌, ◌&&◌, ◌||◌, not, ℕ, Bool, true, false, List, [],
 use Words.body
 use Words.cause
 use Words.ending
-use Words.part
 use Words.role
 use Rattle.arj_base.specs.declared.mode.Mode.{Mode}
 use Rattle.arj_law_runs.specs.follow.Frames.{are_so, run_events}
@@ -20,7 +19,7 @@ use Rattle.arj_law_cause.proofs.bindings.Active.{active_row}
 use Rattle.arj_law_cause.proofs.bindings.Bound.{bound_row}
 use Rattle.arj_law_cause.proofs.bindings.Lowered.{lowered_row}
 use Rattle.arj_law_cause.proofs.confirm.Runs.{bare_row, listed_row, met_row}
-use Rattle.arj_law_cause.proofs.kinds.Aborts.{abort_row, told_row}
+use Rattle.arj_law_cause.proofs.kinds.Aborts.{abort_row}
 use Rattle.arj_law_cause.proofs.kinds.Committed.{done_row}
 use Rattle.arj_law_cause.proofs.kinds.Committing.{committed_run}
 use Rattle.arj_law_cause.proofs.kinds.Denied.{step_fits}
@@ -34,7 +33,7 @@ use Rattle.arj_law_cause.proofs.kinds.Openings.{opening_row}
 use Rattle.arj_law_cause.proofs.kinds.Preparing.{entries_row, prepared_run}
 use Rattle.arj_law_cause.proofs.kinds.Quiet.{quiet_row}
 use Rattle.arj_law_cause.proofs.kinds.Recovered.{found_row}
-use Rattle.arj_law_cause.proofs.kinds.Served.{served_row}
+use Rattle.arj_law_cause.proofs.kinds.Served.{told_row}
 use Rattle.arj_law_cause.proofs.kinds.Shown.{copy_row, entry_row}
 use Rattle.arj_law_cause.proofs.kinds.Up.{up_row}
 use Rattle.arj_law_cause.proofs.rows.Whole.{answers_are_caused}
@@ -44,9 +43,9 @@ use Rattle.arj_law_cause.specs.kinds.Kinds.{is_abort_done, is_active, is_armed, 
 use Rattle.arj_law_cause.specs.kinds.Kinds.{is_copy_shown, is_denial, is_dropped, is_entry_prepared, is_entry_shown, is_found, is_got}
 use Rattle.arj_law_cause.specs.kinds.Kinds.{is_granted_entry, is_granted_object, is_halted, is_limit, is_listed_abort, is_lock_lowered}
 use Rattle.arj_law_cause.specs.kinds.Kinds.{is_lost_commit, is_met_abort, is_opening, is_prepared, is_quiet, is_sent, is_told}
-use Rattle.arj_law_cause.specs.kinds.Kinds.{is_told_by_server, is_up, is_void}
+use Rattle.arj_law_cause.specs.kinds.Kinds.{is_up, is_void}
 use Rattle.arj_law_cause.specs.kinds.Rows.{row, tested}
-use Rattle.arj_law_cause.specs.kinds.Tests.{is_committed_so, is_granted_so, is_prepared_so, is_told_so}
+use Rattle.arj_law_cause.specs.kinds.Tests.{is_committed_so, is_granted_so, is_prepared_so}
 use Rattle.arj_law_cause.specs.rows.Lines.{answer_fits}
 use Rattle.arj_law_cause.specs.told.Lines.{TellsWhy, is_told_why}
 
@@ -91,8 +90,11 @@ module _ (hd : Header) (st : Start) (es : List Event) (journal : List Line) wher
 
   first : Follows hd st es journal → Known (all_of [])
   first = runs_too (Step hd) (λ p e bs. Step hd p e bs × Passes (all_of []) p e bs)
-      (λ p e bs step. (step, all_both (row (λ x. is_denial)) is_inside (here_at hd p e bs) bs (step_fits hd p bs e step)
-      (all_inside (here_at hd p e bs) bs (step_inside hd p e bs step)))) st es journal
+      (λ p e bs step. (
+        step,
+        all_both (row (λ x. is_denial)) is_inside (here_at hd p e bs) bs (step_fits hd p bs e step)
+            (all_inside (here_at hd p e bs) bs (step_inside hd p e bs step)),
+      )) st es journal
 
   -- so they pass all
   known : (fs : List Test) → AllByRecursion IsKnown fs → Follows hd st es journal → Known (all_of fs)
@@ -121,8 +123,7 @@ tests =
     ∷ row (λ h. is_entry_prepared)
     ∷ row (λ h. is_commit_done)
     ∷ row (λ h. is_abort_done)
-    ∷ tested is_told_so (λ h. is_told)
-    ∷ row (λ h. is_told_by_server)
+    ∷ row (λ h. is_told)
     ∷ row (λ h. is_granted_object)
     ∷ tested is_granted_so (λ h. is_granted_entry)
     ∷ row (λ h. is_bound)
@@ -143,37 +144,92 @@ module _ (hd : Header) (r : Run hd) (form : IsInForm hd r) where
   Its = IsKnown hd r.start (run_events hd r) (journal_by hd r)
 
   all_known : AllByRecursion Its tests
-  all_known =
-    ((λ h c. refl, answers_are_caused hd r form), (
-    ((λ h c. refl, opening_row hd r form), (
-    ((λ h c. refl, committed_run hd r form), (
-    ((λ h c. refl, lost_commit_row hd r form), (
-    ((λ h c. refl, listed_row hd r form), (
-    ((λ h c. refl, bare_row hd r form), (
-    ((λ h c. refl, met_row hd r form), (
-    ((λ h c. refl, armed_row hd r form), (
-    ((λ h c. refl, halted_row hd r form), (
-    ((λ h c. refl, up_row hd r form), (
-    ((λ h c. refl, found_row hd r form), (
-    ((λ h c. refl, prepared_run hd r form), (
-    ((λ h c. refl, entries_row hd r form), (
-    ((λ h c. refl, done_row hd r form), (
-    ((λ h c. refl, abort_row hd r form), (
-    ((λ h c. refl, told_row hd r form), (
-    ((λ h c. refl, served_row hd r form), (
-    ((λ h c. refl, granted_row hd r form), (
-    ((λ h c. refl, granted_entry_row hd r form), (
-    ((λ h c. refl, bound_row hd r form), (
-    ((λ h c. refl, active_row hd r form), (
-    ((λ h c. refl, lowered_row hd r form), (
-    ((λ h c. refl, sent_row hd r form), (
-    ((λ h c. refl, got_row hd r form), (
-    ((λ h c. refl, void_row hd r form), (
-    ((λ h c. refl, dropped_row hd r form), (
-    ((λ h c. refl, limit_row hd r form), (
-    ((λ h c. refl, quiet_row hd r form), (
-    ((λ h c. refl, entry_row hd r form), (
-    ((λ h c. refl, copy_row hd r form), tt)))))))))))))))))))))))))))))))))))))))))))))))))))))))))))
+  all_known = (
+    (λ h c. refl, answers_are_caused hd r form),
+    ((
+      (λ h c. refl, opening_row hd r form),
+      ((
+        (λ h c. refl, committed_run hd r form),
+        ((
+          (λ h c. refl, lost_commit_row hd r form),
+          ((
+            (λ h c. refl, listed_row hd r form),
+            ((
+              (λ h c. refl, bare_row hd r form),
+              ((
+                (λ h c. refl, met_row hd r form),
+                ((
+                  (λ h c. refl, armed_row hd r form),
+                  ((
+                    (λ h c. refl, halted_row hd r form),
+                    ((
+                      (λ h c. refl, up_row hd r form),
+                      ((
+                        (λ h c. refl, found_row hd r form),
+                        ((
+                          (λ h c. refl, prepared_run hd r form),
+                          ((
+                            (λ h c. refl, entries_row hd r form),
+                            ((
+                              (λ h c. refl, done_row hd r form),
+                              ((
+                                (λ h c. refl, abort_row hd r form),
+                                ((
+                                  (λ h c. refl, told_row hd r form),
+                                  ((
+                                    (λ h c. refl, granted_row hd r form),
+                                    ((
+                                      (λ h c. refl, granted_entry_row hd r form),
+                                      ((
+                                        (λ h c. refl, bound_row hd r form),
+                                        ((
+                                          (λ h c. refl, active_row hd r form),
+                                          ((
+                                            (λ h c. refl, lowered_row hd r form),
+                                            ((
+                                              (λ h c. refl, sent_row hd r form),
+                                              ((
+                                                (λ h c. refl, got_row hd r form),
+                                                ((
+                                                  (λ h c. refl, void_row hd r form),
+                                                  ((
+                                                    (λ h c. refl, dropped_row hd r form),
+                                                    ((
+                                                      (λ h c. refl, limit_row hd r form),
+                                                      ((
+                                                        (λ h c. refl, quiet_row hd r form),
+                                                        ((
+                                                          (λ h c. refl, entry_row hd r form),
+                                                          (
+                                                              ((λ h c. refl, copy_row hd r form), tt)),
+                                                        )),
+                                                      )),
+                                                    )),
+                                                  )),
+                                                )),
+                                              )),
+                                            )),
+                                          )),
+                                        )),
+                                      )),
+                                    )),
+                                  )),
+                                )),
+                              )),
+                            )),
+                          )),
+                        )),
+                      )),
+                    )),
+                  )),
+                )),
+              )),
+            )),
+          )),
+        )),
+      )),
+    )),
+  )
 
 -- what a line passes says why it stands
 why : (h : Here) (b : Body) → all_of tests h b ≡ true → is_told_why h b ≡ true
@@ -217,9 +273,7 @@ why h (body.Excluded l x n) is = refl
 why h (body.Prepared n u role.Names) is =
     let b = body.Prepared n u role.Names in (and_parts (has_cause h b) true (and_parts (is_prepared_so h b) (has_cause h b && true) is).1).0
 why h (body.Prepared n u role.Store) is = (and_parts (is_prepared_so h (body.Prepared n u role.Store)) true is).0
-why h (body.Told n u e part.Server) is =
-    let b = body.Told n u e part.Server in (and_parts (has_cause h b) true (and_parts (is_told_so h b) (has_cause h b && true) is).1).0
-why h (body.Told n u e part.Naming) is = (and_parts (is_told_so h (body.Told n u e part.Naming)) true is).0
+why h (body.Told n u e p) is = (and_parts (is_told_why h (body.Told n u e p)) true is).0
 why h (body.Bad n) is = absurd (cc is)
 why h (body.Granted n u o mode) is = by (is_entry o) is
   where

@@ -190,9 +190,11 @@ along_lines : (P : Past → Event → List Body → Type 0) (es : List Event) (p
     (more : List Line) × (end.lines ≡ p.lines ++ more) × AreLater p.count more
 along_lines P [] p end a = ([], ap (λ (q : Past). q.lines) (sym a) ∙ sym (append-nil p.lines), tt)
 along_lines P (e ∷ es) p end a =
-    let r = along_lines P es (next p e a.0) end a.2 in
-    (block (p.count + 1) a.0 ++ r.0, r.1 ∙ append_assoc p.lines (block (p.count + 1) a.0) r.0,
-    block_later p.count a.0 r.0 (later_too p.count r.0 r.2))
+    let r = along_lines P es (next p e a.0) end a.2 in (
+      block (p.count + 1) a.0 ++ r.0,
+      r.1 ∙ append_assoc p.lines (block (p.count + 1) a.0) r.0,
+      block_later p.count a.0 r.0 (later_too p.count r.0 r.2),
+    )
 
 ending_later : (n m : ℕ) → n < m → (xs : List Line) → AreEnding m xs → AreLater n xs
 ending_later n m less [] end = tt
@@ -241,8 +243,10 @@ module _ (hd : Header) (Q : Past → Event → List Body → Type 0) (f : Here �
       by true is =
           let r = one_refused bs is in subst (Tests p e) (sym r.1) (λ i. refusals (here_at hd p e (body.Refused r.0 ∷ [])) r.0 i && true)
       by false is = front_so (here_at hd p e bs) bs x (subst (λ (h : Here). are_so f h (bs ++ x ∷ []) ≡ true)
-          (λ i. record (here_at hd p e bs) { accepted = cond ((more_lines bs x last ∙ sym is) i) p.accepted
-          (p.accepted ++ asked_of p e ∷ []) }) tests)
+          (λ i. record (here_at hd p e bs) {
+            accepted = cond ((more_lines bs x last ∙ sym is) i) p.accepted
+                (p.accepted ++ asked_of p e ∷ []);
+          }) tests)
 
   go : (es : List Event) (p end other : Past) (xs ys : List Line) → Along Known p es end → Along Tests p es other →
       AreEnding (p.count + length es) xs → AreEnding (p.count + length es) ys → end.lines ++ xs ≡ other.lines ++ ys → Along Both p es end
@@ -260,10 +264,13 @@ module _ (hd : Header) (Q : Past → Event → List Body → Type 0) (f : Here �
 
       longer : ((x : Body) × (is_ending x ≡ true) × (b.0 ≡ a.0 ++ x ∷ [])) → Tests p e a.0
       longer x = front_tests p e a.0 x.0 x.1 (subst (Tests p e) x.2 b.1)
-  go (e ∷ d ∷ es) p end other xs ys a b last final is =
-      (a.0, (a.1.0, (a.1.1, subst (Tests p e) (sym same) b.1)), go (d ∷ es) (next p e a.0) end other xs ys a.2
-      (subst (λ bs. Along Tests (next p e bs) (d ∷ es) other) (sym same) b.2)
-      (subst (λ n. AreEnding n xs) (number p.count (length es)) last) (subst (λ n. AreEnding n ys) (number p.count (length es)) final) is)
+  go (e ∷ d ∷ es) p end other xs ys a b last final is = (
+    a.0,
+    (a.1.0, (a.1.1, subst (Tests p e) (sym same) b.1)),
+    go (d ∷ es) (next p e a.0) end other xs ys a.2
+        (subst (λ bs. Along Tests (next p e bs) (d ∷ es) other) (sym same) b.2)
+        (subst (λ n. AreEnding n xs) (number p.count (length es)) last) (subst (λ n. AreEnding n ys) (number p.count (length es)) final) is,
+  )
     where
       number : (n m : ℕ) → n + suc (suc m) ≡ (n + 1) + suc m
       number n m = omega arith
@@ -295,9 +302,14 @@ module _ (hd : Header) (Q : Past → Event → List Body → Type 0) (f : Here �
 
   -- each event's lines pass the test, beside what is known of them
   pub together : (st : Start) (es : List Event) (journal : List Line) → Runs Known st es journal → Runs Tests st es journal → Runs Both st es journal
-  together st es journal a b =
-      (a.0, a.1, go es (at_start st) a.0 b.0 a.1 b.1 a.2 b.2 (subst (λ n. AreEnding n a.1) (first (length es)) a.4)
-      (subst (λ n. AreEnding n b.1) (first (length es)) b.4) (sym a.3 ∙ b.3), a.3, a.4)
+  together st es journal a b = (
+    a.0,
+    a.1,
+    go es (at_start st) a.0 b.0 a.1 b.1 a.2 b.2 (subst (λ n. AreEnding n a.1) (first (length es)) a.4)
+        (subst (λ n. AreEnding n b.1) (first (length es)) b.4) (sym a.3 ∙ b.3),
+    a.3,
+    a.4,
+  )
     where
       first : (n : ℕ) → n ≡ 0 + n
       first n = omega arith

@@ -2,7 +2,6 @@
 use Rattle.std.specs.Prelude.{Bool, true, false, not}
 use Rattle.arj_journal.specs.declared.body.Body.{Body}
 use Rattle.arj_journal.specs.declared.body.Body.TheVariants as body
-use Rattle.arj_journal.specs.declared.body.Part.TheVariants as part
 use Rattle.arj_journal.specs.declared.body.Cause.TheVariants as cause
 use Rattle.arj_journal.specs.declared.body.Role.TheVariants as role
 use Rattle.arj_base.specs.declared.mode.End.TheVariants as ending
@@ -108,11 +107,6 @@ is_abort_done _ = false
 abbrev pub is_told : Body → Bool
 is_told (body.Told n u e p) = true
 is_told _ = false
-
--- a server was told of one
-abbrev pub is_told_by_server : Body → Bool
-is_told_by_server (body.Told n u e part.Server) = true
-is_told_by_server _ = false
 
 -- a lock on an object was granted
 abbrev pub is_granted_object : Body → Bool

@@ -6,15 +6,10 @@ use Rattle.arj_text.specs.Label.{name}
 use Rattle.arj_model.specs.Actions.{act_in, acts}
 use Rattle.arj_model.specs.Calls.{committings}
 use Rattle.arj_model.specs.CauseEnds.{is_commit_of}
-use Rattle.arj_model.specs.CauseLocks.{granted_caused, has_end_of, is_restart}
+use Rattle.arj_model.specs.CauseLocks.{granted_caused, is_restart}
 use Rattle.arj_model.specs.CauseSpans.{Here, act_by, commit_here, holds_in}
 use Rattle.arj_model.specs.Refusals.{holds_of, was_called}
 use Rattle.arj_protocol.specs.Tree.{is_nested}
-
--- `told`. The action ended so, by the lines before.
-abbrev pub is_told_so : Here → Body → Bool
-is_told_so h (body.Told n u e p) = holds_in (λ a. has_end_of h.lines a e) (act_by h.lines u)
-is_told_so h _ = true
 
 -- `prepared`. The action began, and its commit was called.
 abbrev pub is_prepared_so : Here → Body → Bool

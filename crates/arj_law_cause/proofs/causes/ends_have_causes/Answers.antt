@@ -1,4 +1,5 @@
-use Rattle.arj_law_cause.proofs.kinds.Aborts.{abort_row, told_row}
+use Rattle.arj_law_cause.proofs.kinds.Aborts.{abort_row}
+use Rattle.arj_law_cause.proofs.kinds.Served.{told_row}
 use Rattle.arj_law_cause.proofs.causes.ends_have_causes.Goals as goal
 
 pub returns : goal.returns
