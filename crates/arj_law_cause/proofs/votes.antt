@@ -2,8 +2,11 @@
 --
 -- In the lock machine each write in a copy's log was called, or waits (`Applied`), and what was called and is committed up to its top is a
 -- surviving write by the journal (`Surviving`). So it is of what a server voted, whatever naming has forgotten since (`Voted`), and at each
--- moment of a run (`Written`).
+-- moment of a run (`Written`). Whoever is asked to prepare something gets a state (`Filled`).
 pub mod Applied
 pub mod Surviving
 pub mod Voted
 pub mod Written
+pub mod Filled
+pub mod Growing
+pub mod Asks

@@ -96,7 +96,7 @@ pub any_later : {A : Type 0} (p q : A → Bool) → ((x : A) → p x ≡ true �
 any_later p q to [] is = is
 any_later p q to (x ∷ xs) is = or_later (p x) (list_any p xs) (q x) (list_any q xs) (to x) (any_later p q to xs) is
 
-all_later : {A : Type 0} (p q : A → Bool) → ((x : A) → p x ≡ true → q x ≡ true) → (xs : List A) → list_all p xs ≡ true → list_all q xs ≡
+pub all_later : {A : Type 0} (p q : A → Bool) → ((x : A) → p x ≡ true → q x ≡ true) → (xs : List A) → list_all p xs ≡ true → list_all q xs ≡
     true
 all_later p q to [] is = is
 all_later p q to (x ∷ xs) is = let b = and_parts (p x) (list_all p xs) is in λ i. to x b.0 i && all_later p q to xs b.1 i
@@ -111,7 +111,7 @@ among_those {A} f (x ∷ xs) s = by (f x) (among_those f xs s)
     by None ih = ih
     by (Some n) ih = ap (λ b. (n == s) || b) ih
 
-joins_later : (ls ms : List Line) (id x s : ℕ) → is_among (joins_of ls id x) s ≡ true → is_among (joins_of (ls ++ ms) id x) s ≡ true
+pub joins_later : (ls ms : List Line) (id x s : ℕ) → is_among (joins_of ls id x) s ≡ true → is_among (joins_of (ls ++ ms) id x) s ≡ true
 joins_later ls ms id x s on =
     among_those (λ (i : Placed last.Inclusion). joins_by (committed (ls ++ ms)) id x i (top_in i.it.path)) (included (ls ++ ms)) s
     ∙ any_later old new more (included (ls ++ ms))
@@ -305,7 +305,7 @@ has_in (m ∷ ns) n (inr i) = (λ j. (m == n) || has_in ns n i j) ∙ last_true 
     last_true false = refl
 
 -- a plan uses each object once
-found_in : (us : List Used) → AreOnce us → (v : Used) → In v us → used_at v.x us ≡ Some v
+pub found_in : (us : List Used) → AreOnce us → (v : Used) → In v us → used_at v.x us ≡ Some v
 found_in [] once v none = absurd none
 found_in (u ∷ us) once v (inl same) = (λ i. cond ((ap (λ (w : Used). w.x == v.x) same ∙ same_number v.x) i) (Some u) (used_at v.x us)) ∙ ap
     Some same

@@ -212,7 +212,7 @@ quiet_sent (Say b ∷ es) each = (tt, quiet_sent es (λ to m i. each to m (inr i
 quiet_sent (Do w ∷ es) each = (tt, quiet_sent es (λ to m i. each to m (inr i)))
 quiet_sent (Send n k ∷ es) each = (each n k (inl refl), quiet_sent es (λ to m i. each to m (inr i)))
 
-parts_quiet : (from : ℕ) (o : Option (Head × Ask)) (es : List Effect) → AreSentTo from o es → AllQuiet es
+pub parts_quiet : (from : ℕ) (o : Option (Head × Ask)) (es : List Effect) → AreSentTo from o es → AllQuiet es
 parts_quiet from o es sent = quiet_sent es (λ to m i. one o to m (sent to m i))
   where
     one : (q : Option (Head × Ask)) (to : ℕ) (m : Message) → IsSentTo from q to m → asks m ≡ None
@@ -231,8 +231,9 @@ message_late k d t v from m outs is = by (coord_case k d t v from m outs is)
     by (cases.Heard a r some same are) = subst Late are (heard_late from a r d.intents t.coord)
     by (cases.Acks u which same are) = subst Late are (late_quiet _ (quiet_acked from u d.intents t.coord))
 
-pub restart_late : (hd : Header) (k inc : ℕ) (d : Disk) → Late (restart_outs hd k inc d)
-restart_late hd k inc d = late_quiet (restart_outs hd k inc d) (by (restart_outs hd k inc d) (restart_asks hd k inc d))
+-- a restart asks nothing
+pub restart_quiet : (hd : Header) (k inc : ℕ) (d : Disk) → AllQuiet (restart_outs hd k inc d)
+restart_quiet hd k inc d = by (restart_outs hd k inc d) (restart_asks hd k inc d)
   where
     c : Coord
     c = let t = parts_in k inc d in t.coord
@@ -254,3 +255,6 @@ restart_late hd k inc d = late_quiet (restart_outs hd k inc d) (by (restart_outs
         one : (o : Option (Head × Ask)) → asks m ≡ o → asks m ≡ None
         one None is = is
         one (Some q) is = let s = so.0 q.0 q.1 is in nobody (actor (let h = q.0 in h.path)) s.doing s.found
+
+pub restart_late : (hd : Header) (k inc : ℕ) (d : Disk) → Late (restart_outs hd k inc d)
+restart_late hd k inc d = late_quiet (restart_outs hd k inc d) (restart_quiet hd k inc d)
