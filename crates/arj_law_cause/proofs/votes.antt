@@ -10,3 +10,5 @@ pub mod Written
 pub mod Filled
 pub mod Growing
 pub mod Asks
+pub mod Lines
+pub mod Prepared

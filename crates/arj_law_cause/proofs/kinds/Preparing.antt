@@ -1,4 +1,5 @@
--- The row of what is prepared: for a top whose commit was called, and at naming where the top has excluded a store or includes one.
+-- The row of what is prepared, but for what a top has changed: for a top whose commit was called, and at naming where the top has excluded
+-- a store or includes one.
 use Rattle.arj_law_parts.proofs.Words
 use Words.{⊤, ◌≡◌, ◌∙◌, ◌&&◌, ◌||◌, ◌==◌, ◌++◌, ◌+◌, not, ℕ, Bool, true, false, List, [], ◌∷◌, Option, Some, None, refl, sym, ap, subst}
 use Words.{inl, inr}
@@ -51,9 +52,8 @@ use Rattle.arj_law_cause.proofs.kinds.Over.{read_later}
 use Rattle.arj_law_cause.proofs.kinds.Running.{nothing_more, row_run}
 use Rattle.arj_law_cause.proofs.kinds.Tells.{AskPrepares, FitsEnds, SaysBy, is_of_ends, message_all}
 use Rattle.arj_law_cause.proofs.kinds.Walks as walks
-use Rattle.arj_law_cause.specs.kinds.Kinds.{is_entry_prepared, is_prepared}
-use Rattle.arj_law_cause.specs.kinds.Rows.{RowHolds, TestHolds, TestedStep, tested}
-use Rattle.arj_law_cause.specs.kinds.Tests.{is_prepared_so}
+use Rattle.arj_law_cause.specs.kinds.Kinds.{is_prepared}
+use Rattle.arj_law_cause.specs.kinds.Rows.{TestHolds, TestedStep, tested}
 
 -- ---- what a line says
 
@@ -299,14 +299,6 @@ module _ (test : Here → Body → Bool) (of : Body → Bool) (less : (b : Body)
 its_call : (lines : List Line) (u : Uid) → CalledBy lines u → holds_in (λ a. was_called (committings lines) a.id) (act_by lines u) ≡ true
 its_call lines u (a, found, on) = ap (holds_in (λ a. was_called (committings lines) a.id)) found ∙ on
 
-pub prepared_run : TestHolds is_prepared_so is_prepared
-prepared_run = so_run is_prepared_so is_prepared (λ b is. is) pass
-  where
-    pass : (h : Here) (b : Body) → PreparedSo h.lines b → tested is_prepared_so (λ g. is_prepared) h b ≡ true
-    pass h (body.Prepared n u role.Store) so = its_call h.lines u so
-    pass h (body.Prepared n u role.Names) so = its_call h.lines u (so.1.0, so.1.1, so.1.2)
-    pass h b so = refl
-
 -- ---- at naming
 
 one_some : {A : Type 0} (f : A → Option ℕ) (s : ℕ) (xs : List A) → is_among (Words.filter_map f xs) s ≡ true → has_some
@@ -346,61 +338,32 @@ its_include lines id x s on = any_later old (λ (i : Placed last.Inclusion). has
             (model.chain_in i.it.path))
             refl e
 
-pub entries_row : RowHolds is_entry_prepared
-entries_row = so_run has_cause is_entry_prepared less pass
+lists : (lines : List Line) (id : ℕ) → ChangesLists lines id →
+    (list_any (λ (e : Placed last.Exclusion). e.it.top == id) (last.excluded lines)
+    || list_any (λ (i : Placed last.Inclusion). has_some (joins_of lines id i.it.x)) (included lines)) ≡ true
+lists lines id (inl ex) = λ i. ex i || list_any (λ (j : Placed last.Inclusion). has_some (joins_of lines id j.it.x)) (included lines)
+lists lines id (inr (x, s, on)) = (λ i. list_any (λ (e : Placed last.Exclusion). e.it.top == id) (last.excluded lines)
+    || its_include lines id x s on i) ∙ last_true (list_any (λ (e : Placed last.Exclusion). e.it.top == id) (last.excluded lines))
   where
-    less : (b : Body) → is_prepared b ≡ false → is_entry_prepared b ≡ false
-    less (body.Prepared n u r) is = absurd (cc is)
-    less b is = refl
+    last_true : (b : Bool) → (b || true) ≡ true
+    last_true true = refl
+    last_true false = refl
 
-    lists : (lines : List Line) (id : ℕ) → ChangesLists lines id →
-        (list_any (λ (e : Placed last.Exclusion). e.it.top == id) (last.excluded lines)
-        || list_any (λ (i : Placed last.Inclusion). has_some (joins_of lines id i.it.x)) (included lines)) ≡ true
-    lists lines id (inl ex) = λ i. ex i || list_any (λ (j : Placed last.Inclusion). has_some (joins_of lines id j.it.x)) (included lines)
-    lists lines id (inr (x, s, on)) = (λ i. list_any (λ (e : Placed last.Exclusion). e.it.top == id) (last.excluded lines)
-        || its_include lines id x s on i) ∙ last_true (list_any (λ (e : Placed last.Exclusion). e.it.top == id) (last.excluded lines))
-      where
-        last_true : (b : Bool) → (b || true) ≡ true
-        last_true true = refl
-        last_true false = refl
+-- ---- the row, but for what a store's top has changed
 
-    pass : (h : Here) (b : Body) → PreparedSo h.lines b → tested has_cause (λ g. is_entry_prepared) h b ≡ true
+abbrev pub is_called_so : Here → Body → Bool
+is_called_so h (body.Prepared n u role.Store) = holds_in (λ a. was_called (committings h.lines) a.id) (act_by h.lines u)
+is_called_so h b = has_cause h b
+
+pub called_run : TestHolds is_called_so is_prepared
+called_run = so_run is_called_so is_prepared (λ b is. is) pass
+  where
+    pass : (h : Here) (b : Body) → PreparedSo h.lines b → tested is_called_so (λ g. is_prepared) h b ≡ true
+    pass h (body.Prepared n u role.Store) so = its_call h.lines u so
     pass h (body.Prepared n u role.Names) (one, (a, found, on, changes)) =
         ap (holds_in (λ (c : Act). was_called (committings h.lines) c.id &&
         ((n == 1) && (list_any (λ (e : Placed last.Exclusion). e.it.top == c.id)
         (last.excluded h.lines) || list_any (λ (i : Placed last.Inclusion). has_some (joins_of h.lines c.id i.it.x)) (included h.lines)))))
         found
         ∙ (λ i. on i && ((ap (λ j. j == 1) one i) && lists h.lines a.id changes i))
-    pass h (body.Prepared n u role.Store) so = refl
-    pass h (body.Began p q r s) so = refl
-    pass h (body.Ok p q r s) so = refl
-    pass h (body.Includes p q r) so = refl
-    pass h (body.Conflict p q r s) so = refl
-    pass h (body.Lost p q) so = refl
-    pass h (body.Changed p q r) so = refl
-    pass h (body.Committing p) so = refl
-    pass h (body.Committed p) so = refl
-    pass h (body.Aborted p q) so = refl
-    pass h (body.Ended p) so = refl
-    pass h (body.GaveUp p q) so = refl
-    pass h (body.Excluded p q r) so = refl
-    pass h (body.Granted p q r s) so = refl
-    pass h (body.Lowered p q r) so = refl
-    pass h (body.Bound p q r) so = refl
-    pass h (body.Active p q r) so = refl
-    pass h (body.Told p q r s) so = refl
-    pass h (body.Done p q r s) so = refl
-    pass h (body.Sent p q r s) so = refl
-    pass h (body.Got p) so = refl
-    pass h (body.Void p) so = refl
-    pass h (body.Dropped p) so = refl
-    pass h (body.Halted p) so = refl
-    pass h (body.Up p q) so = refl
-    pass h (body.Armed p) so = refl
-    pass h (body.Recovered p q) so = refl
-    pass h (body.Refused p) so = refl
-    pass h (body.Entry p q r s) so = refl
-    pass h (body.Copy p q r s v) so = refl
-    pass h (body.Quiet p) so = refl
-    pass h (body.Bad p) so = refl
-    pass h (body.Limit p) so = refl
+    pass h b so = refl
