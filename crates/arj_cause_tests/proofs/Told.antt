@@ -17,12 +17,11 @@ use Rattle.arj_model.specs.CauseSpans.{Here}
 use Rattle.arj_model.specs.Past.{Past, nothing_yet}
 use Rattle.arj_law_cause.specs.form.Form.{AreInForm}
 use Rattle.arj_law_cause.specs.kinds.Kinds.{is_active, is_armed, is_bare_abort, is_bound, is_commit_done, is_committed, is_dropped}
-use Rattle.arj_law_cause.specs.kinds.Kinds.{is_entry_prepared}
 use Rattle.arj_law_cause.specs.kinds.Kinds.{is_found, is_got, is_granted_entry, is_granted_object, is_halted, is_limit, is_listed_abort}
 use Rattle.arj_law_cause.specs.kinds.Kinds.{is_lock_lowered, is_lost_commit, is_met_abort, is_opening, is_prepared, is_quiet, is_sent}
 use Rattle.arj_law_cause.specs.kinds.Kinds.{is_up, is_void}
 use Rattle.arj_law_cause.specs.kinds.Rows.{row, tested}
-use Rattle.arj_law_cause.specs.kinds.Tests.{is_granted_so, is_committed_so, is_prepared_so}
+use Rattle.arj_law_cause.specs.kinds.Tests.{is_granted_so, is_committed_so}
 use Rattle.arj_law_cause.specs.rows.Lines.{answer_fits}
 use Rattle.arj_law_cause.specs.waits.replies.Ends.{RepliesStep}
 use Rattle.arj_cause_tests.proofs.Words.{Run, after, b, end_from, instead, l, of_other_event, run, u, without}
@@ -249,17 +248,18 @@ met_so = refl
 found : failing_of is_found (after 24 (body.Recovered 1 (u 1 1 1) ∷ []) stop_at_decision_done) ≡ 25 ∷ []
 found = refl
 
--- `prepared`: before its commit was called
-prepared_early : failing (tested is_prepared_so (λ h. is_prepared)) (after 11 (body.Prepared 2 (u 1 1 1) role.Store ∷ []) exclusion)
-    ≡ 12 ∷ []
+-- `prepared`: before its commit was called, what no line says was written, where nothing was excluded, and at another node than naming's
+prepared_early : failing_of is_prepared (after 11 (body.Prepared 2 (u 1 1 1) role.Store ∷ []) exclusion) ≡ 12 ∷ []
 prepared_early = refl
 
--- `listed`: nothing was excluded, and at another node than naming's
-listed : failing_of is_entry_prepared (without 21 exclusion) ≡ 22 ∷ []
-listed = refl
+prepared_unwritten : failing_of is_prepared (without 11 exclusion) ≡ 16 ∷ []
+prepared_unwritten = refl
 
-listed_elsewhere : failing_of is_entry_prepared (instead 23 (body.Prepared 2 (u 1 1 1) role.Names) exclusion) ≡ 23 ∷ []
-listed_elsewhere = refl
+prepared_alike : failing_of is_prepared (without 21 exclusion) ≡ 22 ∷ []
+prepared_alike = refl
+
+prepared_elsewhere : failing_of is_prepared (instead 23 (body.Prepared 2 (u 1 1 1) role.Names) exclusion) ≡ 23 ∷ []
+prepared_elsewhere = refl
 
 -- `done`: it isn't committed
 done : failing_of is_commit_done (after 17 (body.Done 2 (u 1 1 1) role.Store Commit ∷ []) exclusion) ≡ 18 ∷ []

@@ -1,7 +1,7 @@
 // Rows of causes: lines of the world, and what nodes do.
-ghost use Rattle.arj_law_cause.specs.kinds.Kinds.{is_abort_done, is_armed, is_bare_abort, is_commit_done, is_committed, is_copy_shown, is_denial, is_dropped, is_entry_prepared, is_entry_shown, is_found, is_got, is_granted_object, is_granted_entry, is_halted, is_limit, is_listed_abort, is_lost_commit, is_met_abort, is_opening, is_plain_refusal, is_prepared, is_quiet, is_sent, is_told, is_up, is_void};
+ghost use Rattle.arj_law_cause.specs.kinds.Kinds.{is_abort_done, is_armed, is_bare_abort, is_commit_done, is_committed, is_copy_shown, is_denial, is_dropped, is_entry_shown, is_found, is_got, is_granted_object, is_granted_entry, is_halted, is_limit, is_listed_abort, is_lost_commit, is_met_abort, is_opening, is_plain_refusal, is_prepared, is_quiet, is_sent, is_told, is_up, is_void};
 ghost use Rattle.arj_law_cause.specs.kinds.Rows.{RowHolds, RowHoldsWhere, TestHolds};
-ghost use Rattle.arj_law_cause.specs.kinds.Tests.{is_granted_so, is_committed_so, is_prepared_so};
+ghost use Rattle.arj_law_cause.specs.kinds.Tests.{is_granted_so, is_committed_so};
 
 /// In every run in form, wherever it begins and wherever disks stop, each line of a frame has its cause by the events and the lines before
 /// it, row by row: a frame that is sent has the next number and goes from a node that is up, or from nobody where the script hands over
@@ -109,11 +109,11 @@ pub fn refused_commits_have_causes()
     ensures met { RowHolds is_met_abort }
 {}
 
-/// In every such run something is prepared, at a store or at naming, for an action that began and whose commit was called; and at naming,
-/// which is at node 1, only where the action has excluded a store, or an include of it survives. It does nothing when it runs.
+/// In every such run something is prepared for an action that began and whose commit was called: at a store where a write or an include of it
+/// survives by the lines before, and at naming, which is at node 1, where it has excluded a store, or an include of it survives. It does
+/// nothing when it runs.
 pub fn preparations_have_causes()
-    ensures prepared { TestHolds is_prepared_so is_prepared }
-    ensures entries { RowHolds is_entry_prepared }
+    ensures prepared { RowHolds is_prepared }
 {}
 
 /// In every such run, but in a restart, a lock on an entry is granted by naming, to a top that has no such lock by the table before the line,

@@ -4,7 +4,6 @@ use Words.{◌≡◌, ◌&&◌, ◌||◌, not, ℕ, Bool, true, false, List, [],
 use Words.body
 use Words.cause
 use Words.ending
-use Words.role
 use Rattle.arj_base.specs.declared.mode.Mode.{Mode}
 use Rattle.arj_law_runs.specs.follow.Frames.{are_so, run_events}
 use Rattle.arj_model.specs.CauseLocks.{is_restart}
@@ -30,7 +29,6 @@ use Rattle.arj_law_cause.proofs.kinds.Granted.{granted_row}
 use Rattle.arj_law_cause.proofs.kinds.Limit.{limit_row}
 use Rattle.arj_law_cause.proofs.kinds.LostCommits.{lost_commit_row}
 use Rattle.arj_law_cause.proofs.kinds.Openings.{opening_row}
-use Rattle.arj_law_cause.proofs.kinds.Preparing.{entries_row, prepared_run}
 use Rattle.arj_law_cause.proofs.kinds.Quiet.{quiet_row}
 use Rattle.arj_law_cause.proofs.kinds.Recovered.{found_row}
 use Rattle.arj_law_cause.proofs.kinds.Served.{told_row}
@@ -39,13 +37,14 @@ use Rattle.arj_law_cause.proofs.kinds.Up.{up_row}
 use Rattle.arj_law_cause.proofs.rows.Whole.{answers_are_caused}
 use Rattle.arj_law_cause.proofs.told.Joined.{journals_follow}
 use Rattle.arj_law_cause.proofs.told.Together.{AreInside, step_inside, together}
+use Rattle.arj_law_cause.proofs.votes.Prepared.{prepared_row}
 use Rattle.arj_law_cause.specs.kinds.Kinds.{is_abort_done, is_active, is_armed, is_bare_abort, is_bound, is_commit_done, is_committed}
-use Rattle.arj_law_cause.specs.kinds.Kinds.{is_copy_shown, is_denial, is_dropped, is_entry_prepared, is_entry_shown, is_found, is_got}
+use Rattle.arj_law_cause.specs.kinds.Kinds.{is_copy_shown, is_denial, is_dropped, is_entry_shown, is_found, is_got}
 use Rattle.arj_law_cause.specs.kinds.Kinds.{is_granted_entry, is_granted_object, is_halted, is_limit, is_listed_abort, is_lock_lowered}
 use Rattle.arj_law_cause.specs.kinds.Kinds.{is_lost_commit, is_met_abort, is_opening, is_prepared, is_quiet, is_sent, is_told}
 use Rattle.arj_law_cause.specs.kinds.Kinds.{is_up, is_void}
 use Rattle.arj_law_cause.specs.kinds.Rows.{row, tested}
-use Rattle.arj_law_cause.specs.kinds.Tests.{is_committed_so, is_granted_so, is_prepared_so}
+use Rattle.arj_law_cause.specs.kinds.Tests.{is_committed_so, is_granted_so}
 use Rattle.arj_law_cause.specs.rows.Lines.{answer_fits}
 use Rattle.arj_law_cause.specs.told.Lines.{TellsWhy, is_told_why}
 
@@ -119,8 +118,7 @@ tests =
     ∷ row (λ h. is_halted)
     ∷ row (λ h. is_up)
     ∷ row (λ h. is_found)
-    ∷ tested is_prepared_so (λ h. is_prepared)
-    ∷ row (λ h. is_entry_prepared)
+    ∷ row (λ h. is_prepared)
     ∷ row (λ h. is_commit_done)
     ∷ row (λ h. is_abort_done)
     ∷ row (λ h. is_told)
@@ -167,9 +165,7 @@ module _ (hd : Header) (r : Run hd) (form : IsInForm hd r) where
                       ((
                         (λ h c. refl, found_row hd r form),
                         ((
-                          (λ h c. refl, prepared_run hd r form),
-                          ((
-                            (λ h c. refl, entries_row hd r form),
+                          (λ h c. refl, prepared_row hd r form),
                             ((
                               (λ h c. refl, done_row hd r form),
                               ((
@@ -217,7 +213,6 @@ module _ (hd : Header) (r : Run hd) (form : IsInForm hd r) where
                                 )),
                               )),
                             )),
-                          )),
                         )),
                       )),
                     )),
@@ -270,9 +265,7 @@ why h (body.Aborted l (cause.Changed n d)) is = refl
 why h (body.Aborted l (cause.Old n x v)) is = refl
 why h (body.GaveUp l n) is = refl
 why h (body.Excluded l x n) is = refl
-why h (body.Prepared n u role.Names) is =
-    let b = body.Prepared n u role.Names in (and_parts (has_cause h b) true (and_parts (is_prepared_so h b) (has_cause h b && true) is).1).0
-why h (body.Prepared n u role.Store) is = (and_parts (is_prepared_so h (body.Prepared n u role.Store)) true is).0
+why h (body.Prepared n u r) is = (and_parts (is_told_why h (body.Prepared n u r)) true is).0
 why h (body.Told n u e p) is = (and_parts (is_told_why h (body.Told n u e p)) true is).0
 why h (body.Bad n) is = absurd (cc is)
 why h (body.Granted n u o mode) is = by (is_entry o) is

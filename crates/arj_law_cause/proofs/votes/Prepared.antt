@@ -2,7 +2,7 @@
 -- excluded a store, or includes one.
 use Rattle.arj_law_parts.proofs.Words
 use Words.{⊤, ◌≡◌, ◌≢◌, ◌⊎◌, ◌∙◌, ◌==◌, ◌&&◌, ◌++◌, ◌+◌, not, ℕ, Bool, true, false, List, [], ◌∷◌, Option, Some, None, refl, sym, ap, subst}
-use Words.{AllByRecursion, IfSome, and_parts, list_all, map, numbered, journal_by}
+use Words.{AllByRecursion, IfSome, inl, and_parts, list_all, map, numbered, journal_by}
 use Words.{Ask, Body, Disk, Do, Effect, Say, Send, Head, Header, Line, Message, ObjectState, Parts, Post, Seen, Took, Uid, actor, asks, handle, In}
 use Words.{again_all, begin_action, holders, parent_of, parts_in, query_about, restart_outs, tick_outs, tolds_again, with_coord, worked, stopped}
 use Words.{acts as acts_of}
@@ -148,8 +148,6 @@ message_says k d t v from m outs M asks_are there is =
     some : (h : Head) (states : List ObjectState) → AskChanged M.lines (Some (h, ask.Prepare states)) → HasChanged M.lines (actor h.path)
     some h [] its early = absurd (its.0 refl)
     some h (st ∷ states) its early = let z = its.1 early in (z.0, z.1, z.2, (let u = st.uid in u.num), z.3 st (inl refl))
-      where
-        inl = Words.inl
 
     prepares : (h : Head) (a : Ask) → asks m ≡ Some (h, a) → AskPrepares (IsChanged M.lines) k h a
     prepares h a is_it = by a (subst (AskChanged M.lines) is_it so)

@@ -3,7 +3,6 @@ use Rattle.std.specs.Prelude.{Bool, true, false, not}
 use Rattle.arj_journal.specs.declared.body.Body.{Body}
 use Rattle.arj_journal.specs.declared.body.Body.TheVariants as body
 use Rattle.arj_journal.specs.declared.body.Cause.TheVariants as cause
-use Rattle.arj_journal.specs.declared.body.Role.TheVariants as role
 use Rattle.arj_base.specs.declared.mode.End.TheVariants as ending
 use Rattle.arj_model.specs.CauseSpans.{Here}
 use Rattle.arj_model.specs.Table.{is_entry}
@@ -92,11 +91,6 @@ is_committed _ = false
 abbrev pub is_prepared : Body → Bool
 is_prepared (body.Prepared n u r) = true
 is_prepared _ = false
-
--- at naming
-abbrev pub is_entry_prepared : Body → Bool
-is_entry_prepared (body.Prepared n u role.Names) = true
-is_entry_prepared _ = false
 
 -- an abort was done, at a store or at naming
 abbrev pub is_abort_done : Body → Bool

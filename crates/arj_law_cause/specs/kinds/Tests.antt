@@ -4,17 +4,11 @@ use Rattle.arj_journal.specs.declared.body.Body.{Body}
 use Rattle.arj_journal.specs.declared.body.Body.TheVariants as body
 use Rattle.arj_text.specs.Label.{name}
 use Rattle.arj_model.specs.Actions.{act_in, acts}
-use Rattle.arj_model.specs.Calls.{committings}
 use Rattle.arj_model.specs.CauseEnds.{is_commit_of}
 use Rattle.arj_model.specs.CauseLocks.{granted_caused, is_restart}
-use Rattle.arj_model.specs.CauseSpans.{Here, act_by, commit_here, holds_in}
-use Rattle.arj_model.specs.Refusals.{holds_of, was_called}
+use Rattle.arj_model.specs.CauseSpans.{Here, commit_here, holds_in}
+use Rattle.arj_model.specs.Refusals.{holds_of}
 use Rattle.arj_protocol.specs.Tree.{is_nested}
-
--- `prepared`. The action began, and its commit was called.
-abbrev pub is_prepared_so : Here → Body → Bool
-is_prepared_so h (body.Prepared n u r) = holds_in (λ a. was_called (committings h.lines) a.id) (act_by h.lines u)
-is_prepared_so h _ = true
 
 -- `granted`. Outside of a restart it has its cause.
 abbrev pub is_granted_so : Here → Body → Bool

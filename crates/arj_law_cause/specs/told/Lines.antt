@@ -3,7 +3,6 @@ use Rattle.std.specs.Prelude.{◌≡◌, List, Bool, true, ◌&&◌, ◌||◌}
 use Rattle.arj_journal.specs.declared.body.Body.{Body}
 use Rattle.arj_journal.specs.declared.body.Body.TheVariants as body
 use Rattle.arj_journal.specs.declared.body.Cause.TheVariants as cause
-use Rattle.arj_journal.specs.declared.body.Role.TheVariants as role
 use Rattle.arj_journal.specs.declared.event.Event.{Event}
 use Rattle.arj_journal.specs.declared.header.Header.{Header}
 use Rattle.arj_law_runs.specs.follow.Frames.{are_so}
@@ -12,7 +11,7 @@ use Rattle.arj_model.specs.CauseSpans.{Here, here_at}
 use Rattle.arj_model.specs.Caused.{has_cause}
 use Rattle.arj_model.specs.Past.{Past}
 use Rattle.arj_model.specs.Table.{is_entry}
-use Rattle.arj_law_cause.specs.kinds.Tests.{is_committed_so, is_prepared_so}
+use Rattle.arj_law_cause.specs.kinds.Tests.{is_committed_so}
 use Rattle.arj_law_cause.specs.rows.Lines.{answer_fits}
 
 -- A line has its cause, by the header, the events and the lines before it. Of these kinds this much of it is known.
@@ -25,7 +24,6 @@ is_told_why h (body.Aborted l (cause.Old n x v)) = true
 is_told_why h (body.GaveUp l n) = true
 is_told_why h (body.Excluded l x n) = true
 is_told_why h (body.Granted n u o mode) = is_entry o && is_restart h.event || has_cause h (body.Granted n u o mode)
-is_told_why h (body.Prepared n u role.Store) = is_prepared_so h (body.Prepared n u role.Store)
 is_told_why h b = has_cause h b
 
 -- so it is of each line that an event wrote
