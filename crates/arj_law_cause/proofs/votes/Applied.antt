@@ -154,7 +154,8 @@ module _ (s : State) where
   waits_at : (a : Act) (x : Action) → x.request ≡ (s.action a).request → x.waits ≡ (s.action a).waits → (f : Entry) → IsWaiting s f →
       (f.request ≡ (at_act s.action a x f.by).request) × ((at_act s.action a x f.by).waits ≡ true)
   waits_at a x request waits f wait = act_cases
-      (λ (b : Act) (y : Action). (f.request ≡ (s.action b).request) × ((s.action b).waits ≡ true) → (f.request ≡ y.request) × (y.waits ≡ true))
+      (λ (b : Act) (y : Action). (f.request ≡ (s.action b).request) × ((s.action b).waits ≡ true) → (f.request ≡ y.request)
+      × (y.waits ≡ true))
       s.action a x (λ w. (w.0 ∙ sym request, waits ∙ w.1)) (λ b other w. w) f.by wait
 
   -- one action changes, and another one than this waits as it did
@@ -413,7 +414,8 @@ pub are_calls : (first : ℕ) (s : State) → Run (start first) s → AreCalls s
 are_calls first s run = run_called run (start_holds first) (start_values first) (λ n e i. absurd i)
 
 -- calls stay, and what is committed
-run_on : {s t : State} → Run s t → Holds s → Values s → ((c : Call) → In c s.calls → In c t.calls) × ((a b : Act) → Merged s a b → Merged t a b)
+run_on : {s t : State} → Run s t → Holds s → Values s → ((c : Call) → In c s.calls → In c t.calls) × ((a b : Act) → Merged s a b →
+    Merged t a b)
 run_on stay h v = (λ c i. i, λ a b m. m)
 run_on {s} (step e guard more) h v =
     let k = step_keeps e s guard h in

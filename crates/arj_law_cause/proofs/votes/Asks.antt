@@ -2,9 +2,12 @@
 use Rattle.arj_law_parts.proofs.Words
 use Words.{⊤, ◌≡◌, ◌⊎◌, ◌∙◌, ◌||◌, ◌++◌, ◌+◌, ℕ, Bool, true, false, cond, List, [], ◌∷◌, Option, Some, None, refl, sym, ap, subst, inl, inr}
 use Words.{⊎_elim, AllByRecursion, IfSome, in_find, in_filter_map, in_from, is_on, numbered, uid_is, uid_eq, is_some}
-use Words.{Ask, Body, Disk, Do, Effect, Say, Send, Head, Header, Label, Line, Message, ObjectState, Parts, Post, Seen, Uid, asks, actor, object, In}
-use Words.{Confirming, Machine, Node, Preparing, Voting, Plan, Used, ask_of, changed_of, plan_of, state_by, state_for, states_for, has, root_of}
-use Words.{Committing, Calling, Doing, Idle, Now, doing_of, again_all, begin_action, parent_of, parts_in, restart_outs, tick_outs, with_coord}
+use Words.{Ask, Body, Disk, Do, Effect, Say, Send, Head, Header, Label, Line, Message, ObjectState, Parts, Post, Seen, Uid, asks, actor}
+use Words.{object, In}
+use Words.{Confirming, Machine, Node, Preparing, Voting, Plan, Used, ask_of, changed_of, plan_of, state_by, state_for, states_for, has}
+use Words.{root_of}
+use Words.{Committing, Calling, Doing, Idle, Now, doing_of, again_all, begin_action, parent_of, parts_in, restart_outs, tick_outs}
+use Words.{with_coord}
 use Words.{worked, stopped, is_serial, name}
 use Words.{acts as acts_of}
 use Words.ask
@@ -12,10 +15,11 @@ use Words.body
 use Words.list as members
 use Rattle.arj_journal.specs.ScriptForm.{HeaderInForm}
 use Rattle.arj_law_promise.proofs.Terms
-use Terms.{AllSo, AreOnce, HasObject, IsNumbered, IsSentBy, IsUsedIn, KeepsAsked, IsGood, IsKept, UsesOf, Up, Walks, up, given, said, halted, posted}
+use Terms.{AllSo, AreOnce, HasObject, IsNumbered, IsSentBy, IsUsedIn, KeepsAsked, IsGood, IsKept, UsesOf, Up, Walks, up, given, said}
+use Terms.{halted, posted}
 use Terms.{it, AreQuiet, IsUp, keeps_asked}
 use Rattle.arj_law_disk_view.proofs.Terms.{or_left, or_right}
-use Rattle.arj_law_disk_view.specs.view.Plans.{plan_by, used_at}
+use Rattle.arj_law_disk_view.specs.view.Plans.{plan_by}
 use Rattle.arj_law_parts.specs.moves.Seen as seen
 use Rattle.arj_law_parts.specs.parts.AskedObjects.{IsNowOf}
 use Rattle.arj_law_promise.proofs.meant.Posts.{act_sends, message_sends, tick_sends}
@@ -222,7 +226,8 @@ module _ (hd : Header) (form : HeaderInForm hd) (k : ℕ) (d : Disk) (v : Parts)
         w : (w : Used) × In w (plan_of m).used × (state_for to (plan_of m) w ≡ Some st)
         w = in_filter_map (state_for to (plan_of m)) st (plan_of m).used i
 
-        moved : (x : ℕ) → (let z = st.uid in z.num) ≡ x → changes N.lines (let a = its_act in a.id) x ≡ true → changes N.lines (let a = its_act in a.id) (let z = st.uid in z.num) ≡ true
+        moved : (x : ℕ) → (let z = st.uid in z.num) ≡ x → changes N.lines (let a = its_act in a.id) x ≡ true →
+            changes N.lines (let a = its_act in a.id) (let z = st.uid in z.num) ≡ true
         moved x same on = ap (changes N.lines (let a = its_act in a.id)) same ∙ on
 
         wrote : (cs : ObjectState) → changed_of w.0.x (plan_of m) ≡ Some cs → (b : Bool) → cond b (Some cs) None ≡ Some st →
@@ -230,17 +235,21 @@ module _ (hd : Header) (form : HeaderInForm hd) (k : ℕ) (d : Disk) (v : Parts)
         wrote cs is true same =
             let one : cs ≡ st = (let e : ◌≡◌ {A = Option ObjectState} (Some cs) (Some st) = same in cc e) in
             let f = in_find (λ (z : ObjectState). uid_eq z.uid (object w.0.x)) cs (let y = plan_of m in y.changed) is in
-            moved w.0.x (ap (λ (z : ObjectState). let y = z.uid in y.num) (sym one) ∙ ap (λ (z : Uid). z.num) (uid_is cs.uid (object w.0.x) f.1))
-            (or_left (has_written N.lines (let a = its_act in a.id) w.0.x) (has_some (joins_of N.lines (let a = its_act in a.id) w.0.x)) (has_changed early w.0 w.1 cs is))
+            moved w.0.x (ap (λ (z : ObjectState). let y = z.uid in y.num) (sym one) ∙ ap (λ (z : Uid). z.num) (uid_is cs.uid
+                (object w.0.x) f.1))
+            (or_left (has_written N.lines (let a = its_act in a.id) w.0.x) (has_some (joins_of N.lines (let a = its_act in a.id) w.0.x))
+            (has_changed early w.0 w.1 cs is))
         wrote cs is false same = let no_way : ◌≡◌ {A = Option ObjectState} None (Some st) = same in absurd (cc no_way)
 
-        join : (b : Bool) → has w.0.joins to ≡ b → cond b w.0.loaded None ≡ Some st → changes N.lines (let a = its_act in a.id) (let z = st.uid in z.num) ≡ true
+        join : (b : Bool) → has w.0.joins to ≡ b → cond b w.0.loaded None ≡ Some st → changes N.lines (let a = its_act in a.id)
+            (let z = st.uid in z.num) ≡ true
         join true on same = moved w.0.x (ap (λ (z : Uid). z.num) (loaded_of w.0 w.1 st same))
             (or_right (has_written N.lines (let a = its_act in a.id) w.0.x) (has_some (joins_of N.lines (let a = its_act in a.id) w.0.x))
             (among_some (joins_of N.lines (let a = its_act in a.id) w.0.x) to (has_joined w.0 w.1 to on)))
         join false on same = let no_way : ◌≡◌ {A = Option ObjectState} None (Some st) = same in absurd (cc no_way)
 
-        by : (o : Option ObjectState) → changed_of w.0.x (plan_of m) ≡ o → changes N.lines (let a = its_act in a.id) (let z = st.uid in z.num) ≡ true
+        by : (o : Option ObjectState) → changed_of w.0.x (plan_of m) ≡ o → changes N.lines (let a = its_act in a.id)
+            (let z = st.uid in z.num) ≡ true
         by None is = join (has w.0.joins to) refl (ap (state_by to w.0) (sym is) ∙ w.2)
         by (Some cs) is = wrote cs is (has w.0.stores to || has w.0.joins to) (ap (state_by to w.0) (sym is) ∙ w.2)
 
@@ -274,7 +283,8 @@ AreOrNew v es M = (p : Post) → seen.In p M.sent → AskChanged M.lines (asks p
 module _ (hd : Header) (form : HeaderInForm hd) where
   walk : (e k : ℕ) (v : Parts) (outs : List Effect) (d : Disk) (M : Seen) → AllSo v.coord outs → AreFilled outs → Late outs →
       AreOrNew v outs M → Walks (Reached hd) e k outs (Up (Reached hd) k v) d M → Walks AsksAreChanged e k outs (Up AsksAreChanged k v) d M
-  walk e k v [] d M so filled late are reached = λ p there. ⊎_elim (λ old. old) (λ new. by p (asks p.message) refl new.0 new.1) (are p there)
+  walk e k v [] d M so filled late are reached = λ p there. ⊎_elim (λ old. old) (λ new. by p (asks p.message) refl new.0 new.1)
+      (are p there)
     where
       by : (p : Post) (o : Option (Head × Ask)) → asks p.message ≡ o → ((h : Head) (a : Ask) → asks p.message ≡ Some (h, a) →
           IsSentBy v.coord p.to h a) → IsFilled (asks p.message) → AskChanged M.lines (asks p.message)
@@ -336,7 +346,8 @@ module _ (hd : Header) (form : HeaderInForm hd) where
         beside e k v outs d M (message_sends b.0 e k d t M b.1 from m v outs is) (message_filled k d t v from m outs (full k d t M g.0) is)
         (message_late k d t v from m outs is) g.1 (keeps.message e k d t v from m outs M g.0 there meant is);
     act = λ e k d t i M is asks free g. let did = acts_of i d.intents t.coord in let b = good k d t M g.0 in
-        beside e k (with_coord t did.part) did.outs d M (act_sends b.0 e k d t M b.1 i is) (acts_filled t.coord (full k d t M g.0) i d.intents)
+        beside e k (with_coord t did.part) did.outs d M (act_sends b.0 e k d t M b.1 i is) (acts_filled t.coord
+        (full k d t M g.0) i d.intents)
         (acts_late i d.intents t.coord) g.1 (keeps.act e k d t i M is asks free g.0);
     begin = λ e k d t l how parent M new may free g. let did = begin_action l how parent (parent_of parent t.coord) t.coord in
         beside e k (with_coord t did.part) did.outs d (given l (record { node = k; serial = is_serial how }) M) (tt, tt) tt tt g.1
@@ -346,6 +357,7 @@ module _ (hd : Header) (form : HeaderInForm hd) where
         (tick_sends b.0 e k d t M b.1) (tick_filled (record { number = k; disk = d; live = Some t }) t (full k d t M g.0))
         (tick_late (record { number = k; disk = d; live = Some t }) t) g.1 (keeps.tick e k d t M g.0);
     restart = λ e k d M g. beside e k (parts_in k (d.inc + 1) d) (restart_outs hd k (d.inc + 1) d) d M
-        (restart_asks hd k (d.inc + 1) d) (restart_filled hd k (d.inc + 1) d) (restart_late hd k (d.inc + 1) d) g.1 (keeps.restart e k d M g.0);
+        (restart_asks hd k (d.inc + 1) d) (restart_filled hd k (d.inc + 1) d) (restart_late hd k (d.inc + 1) d) g.1
+        (keeps.restart e k d M g.0);
     first = λ st formed. (keeps.first st formed, λ p there. absurd there);
   }

@@ -1,18 +1,22 @@
 -- Whoever is asked to prepare something gets a state: the prepare step asks the stores for which its plan has one.
 use Rattle.arj_law_parts.proofs.Words
-use Words.{arith, ⊤, ◌≡◌, ◌≢◌, ◌⊎◌, ◌∙◌, ◌==◌, ◌&&◌, ◌||◌, ◌++◌, ◌+◌, not, ℕ, zero, suc, Bool, true, false, cond, List, [], ◌∷◌, Option, Some, None, refl}
+use Words.{arith, ⊤, ◌≡◌, ◌⊎◌, ◌∙◌, ◌==◌, ◌&&◌, ◌++◌, ◌+◌, not, ℕ, zero, suc, Bool, true, false, cond, List, [], ◌∷◌, Option}
+use Words.{Some, None, refl}
 use Words.{sym, ap, subst, inl, inr, ⊎_elim, AllByRecursion, cons_option, filter_map, flat_map, map, or_cases}
-use Words.{Ask, Asked, End, Head, Header, Intent, Kind, Label, Message, ObjectState, Path, Reply, Uid, asks, actor, request, request_reads_back}
+use Words.{Ask, Asked, End, Head, Header, Intent, Kind, Message, ObjectState, Path, Reply, Uid, asks, actor, request}
+use Words.{request_reads_back}
 use Words.{heard, heard_by, heard_call, heard_doing, heard_none, heard_now, again_all, again_now, asks_all, call, include, ask_at, next_ask}
 use Words.{commit_action, commit_open, commit_top, give_up, give_up_doing, gives_up, goes_on, moved_commit, step_call, step_commit}
 use Words.{waits_for_call, waits_for_commit, mark_lines, gaveup_lines, At, AtActivate, AtBind, AtInvoke, AtLoad, AtNote, CallStep, Ended}
-use Words.{Goal, On, Steps, given_up, next_node, Aborts, Asks, CommitStep, Confirming, Decides, Machine, Marked, Plan, Preparing, Stays, Used}
+use Words.{On, Steps, given_up, next_node, Aborts, Asks, CommitStep, Confirming, Decides, Machine, Marked, Plan, Preparing, Stays}
+use Words.{Used}
 use Words.{Voting, ask_of, begin_confirm, begin_prepare, begin_vote, changed_of, left_of, marks_store, marks_stores, plan_of, servers_of}
-use Words.{state_by, state_for, states_for, stores_by, stores_left, targets_of, votes_left, waiting, has, number_set, with_number}
-use Words.{without_number, Calling, Committing, Coord, Doing, Idle, Joined, Now, Root, doing_of, joins_on, later_state, latest_of, new_coord}
+use Words.{state_by, state_for, states_for, stores_by, stores_left, targets_of, votes_left, has, number_set, with_number}
+use Words.{without_number, Calling, Committing, Coord, Doing, Idle, Joined, Now, Root, doing_of, joins_on, later_state, latest_of}
+use Words.{new_coord}
 use Words.{objects_in, or_kept_state, plan_for, root_at, used_of, at_number}
 use Words.{Did, Disk, Do, Effect, Say, Send, aborts_with, abort_action, all_aborted, decide, says, tell_all, tolds_again, tolds_of}
-use Words.{open_below, last_req, tick_outs, Parts, Took, handle, holders, query_about, Input, acts, branch_named, on_branch, parts_in}
+use Words.{open_below, last_req, tick_outs, Parts, Took, handle, holders, query_about, Input, acts, branch_named, on_branch}
 use Words.{restart_outs, Node, Branch, at_place, is_own, root_of, ends_of}
 use Words.{call_steps, is_free, keeping_of, next_req, on_root, renewed, start, unbound, uses_object, with_keeping}
 use Words.body
@@ -404,7 +408,8 @@ pub tick_filled : (n : Node) (t : Parts) → Full t.coord → AreFilled (tick_ou
 tick_filled n t its =
     let r = again_all t.coord.doings t.coord in
     filled_both (r.outs ++ tolds_again t.coord.telling) (map query_about (holders n.disk t))
-    (filled_both r.outs (tolds_again t.coord.telling) (again_filled t.coord its t.coord.doings t.coord (λ d i. work (placed_in d t.coord.doings i)))
+    (filled_both r.outs (tolds_again t.coord.telling) (again_filled t.coord its t.coord.doings t.coord (λ d i. work
+    (placed_in d t.coord.doings i)))
     (telling_filled t.coord.telling)) (queries_filled (holders n.disk t))
   where
     same : (n : ℕ) → (n == n) ≡ true

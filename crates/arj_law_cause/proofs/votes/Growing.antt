@@ -1,11 +1,12 @@
 -- What a top has changed by some lines it has by more lines.
 use Rattle.arj_law_parts.proofs.Words
-use Words.{◌≡◌, ◌⊎◌, ◌∙◌, ◌==◌, ◌&&◌, ◌||◌, ◌++◌, ℕ, Bool, true, false, cond, List, [], ◌∷◌, Option, Some, None, refl, sym, ap, inl, inr, ⊎_elim}
-use Words.{and_parts, cons_option, eqb-true, eq-eqb, filter, filter_map, list_all, list_any, or_cases, writes, Line, In}
+use Words.{◌≡◌, ◌∙◌, ◌==◌, ◌&&◌, ◌||◌, ◌++◌, ℕ, Bool, true, false, cond, List, [], ◌∷◌, Option, Some, None, refl, sym, ap}
+use Words.{⊎_elim}
+use Words.{and_parts, cons_option, eqb-true, eq-eqb, filter, filter_map, list_all, list_any, or_cases, writes, Line}
 use Rattle.arj_law_disk_view.proofs.Terms.{or_left, or_right}
 use Rattle.arj_law_runs.proofs.Terms.{Act, Placed}
 use Rattle.arj_model.specs.Actions.{chain_in, committed, committed_of, has_end, top_in}
-use Rattle.arj_model.specs.Calls.{Call, Said, call_of, made, made_by, made_in, said, said_of, surviving}
+use Rattle.arj_model.specs.Calls.{Call, Said, made, made_by, made_in, said, said_of, surviving}
 use Rattle.arj_model.specs.CausePends.{changes, changes_any, has_some, has_written}
 use Rattle.arj_model.specs.CauseSpans.{holds_in}
 use Rattle.arj_model.specs.Last.{Inclusion, included, is_among, joins_by, joins_of}
@@ -99,7 +100,8 @@ changes_some lines id x on = ⊎_elim
     of_object : (i : Placed Inclusion) (s : ℕ) (o : Option Act) → holds_in (λ n. n == s) (joins_by (committed lines) id x i o) ≡ true →
         i.it.x ≡ x
     of_object i s None is = absurd (cc is)
-    of_object i s (Some t) is = kept (t.id == id) (i.it.x == x) (list_all (λ (a : Act). has_end (committed lines) a.id) (chain_in i.it.path))
+    of_object i s (Some t) is = kept (t.id == id) (i.it.x == x) (list_all (λ (a : Act). has_end (committed lines) a.id)
+        (chain_in i.it.path))
         refl is
       where
         kept : (a b c : Bool) → (i.it.x == x) ≡ b → holds_in (λ n. n == s) (cond (a && (b && c)) (Some i.it.node) None) ≡ true → i.it.x ≡ x

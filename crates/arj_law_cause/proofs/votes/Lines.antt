@@ -1,5 +1,6 @@
 -- What each line of a journal is by those before it.
-use Rattle.arj_law_parts.proofs.Words.{⊤, ◌≡◌, ◌++◌, List, [], ◌∷◌, sym, subst, append-nil, append_assoc, ℕ, numbered, AllByRecursion, Body, Line}
+use Rattle.arj_law_parts.proofs.Words.{⊤, ◌++◌, List, [], ◌∷◌, sym, subst, append-nil, append_assoc, ℕ, numbered, AllByRecursion}
+use Rattle.arj_law_parts.proofs.Words.{Body, Line}
 
 module _ (Fit : List Line → Body → Type 0) where
   -- each of these lines is so, behind those before it

@@ -1,10 +1,11 @@
 -- The row of what is prepared, whole: a store prepares for a top whose commit was called what that has changed, and naming where it has
 -- excluded a store, or includes one.
 use Rattle.arj_law_parts.proofs.Words
-use Words.{⊤, ◌≡◌, ◌≢◌, ◌⊎◌, ◌∙◌, ◌==◌, ◌&&◌, ◌++◌, ◌+◌, not, ℕ, Bool, true, false, List, [], ◌∷◌, Option, Some, None, refl, sym, ap, subst}
+use Words.{◌≡◌, ◌∙◌, ◌&&◌, ◌++◌, ◌+◌, not, ℕ, Bool, true, false, List, [], ◌∷◌, Option, Some, None, refl, sym, ap, subst}
 use Words.{AllByRecursion, IfSome, inl, and_parts, list_all, map, numbered, journal_by}
-use Words.{Ask, Body, Disk, Do, Effect, Say, Send, Head, Header, Line, Message, ObjectState, Parts, Post, Seen, Took, Uid, actor, asks, handle, In}
-use Words.{again_all, begin_action, holders, parent_of, parts_in, query_about, restart_outs, tick_outs, tolds_again, with_coord, worked, stopped}
+use Words.{Ask, Body, Disk, Do, Effect, Say, Send, Head, Header, Line, Message, ObjectState, Parts, Post, Seen, Took, Uid, actor, asks}
+use Words.{handle, In}
+use Words.{again_all, begin_action, holders, parent_of, parts_in, query_about, restart_outs, tick_outs, tolds_again, with_coord, worked}
 use Words.{acts as acts_of}
 use Words.{acts_own, again_own, all_both, is_serial, tolds_again_own, AreAll, is_coord_effect, is_coord_line}
 use Words.ask
@@ -12,7 +13,7 @@ use Words.body
 use Words.input
 use Words.role
 use Rattle.arj_journal.specs.ScriptForm.{HeaderInForm}
-use Rattle.arj_law_lock_view.proofs.Terms.{Up, Walks, given, halted, posted, said, up, walks_both}
+use Rattle.arj_law_lock_view.proofs.Terms.{Up, Walks, given, posted, said, walks_both}
 use Rattle.arj_law_parts.proofs.moves.Moving.{moves_asked}
 use Rattle.arj_law_parts.specs.moves.Keeps.{KeepsAsked}
 use Rattle.arj_law_parts.specs.moves.Seen as seen
@@ -28,7 +29,7 @@ use Rattle.arj_model.specs.CausePends.{changes, changes_any}
 use Rattle.arj_model.specs.CauseSpans.{Here, act_by, holds_in}
 use Rattle.arj_model.specs.Caused.{has_cause}
 use Rattle.arj_model.specs.Refusals.{was_called}
-use Rattle.arj_promise.specs.Runs.{IsInForm, Run}
+use Rattle.arj_promise.specs.Runs.{Run}
 use Rattle.arj_law_cause.proofs.confirm.{Joined.IsEarly, Joined.early_before, Reached.Reached, Runs.runs_early}
 use Rattle.arj_law_cause.proofs.kinds.Committed.{act_found, right_lines}
 use Rattle.arj_law_cause.proofs.kinds.Lines.{tested_row}
@@ -107,13 +108,15 @@ quiet_lines e bs M quiet h = fit_both IsChanged [] M.lines (numbered e bs) h (fi
 one_line : (e : ℕ) (b : Body) (M : Seen) → IsChanged M.lines b → LinesChanged M → LinesChanged (said e (b ∷ []) M)
 one_line e b M its h = fit_both IsChanged [] M.lines (numbered e (b ∷ [])) h (its, tt)
 
-grown : (es : List Effect) (ls ms : List Line) → AllByRecursion (SaidIn (IsChanged ls)) es → AllByRecursion (SaidIn (IsChanged (ls ++ ms))) es
+grown : (es : List Effect) (ls ms : List Line) → AllByRecursion (SaidIn (IsChanged ls)) es → AllByRecursion (SaidIn (IsChanged
+    (ls ++ ms))) es
 grown [] ls ms so = tt
 grown (Say c ∷ es) ls ms so = (changed_later ls ms c so.0, grown es ls ms so.1)
 grown (Do w ∷ es) ls ms so = (tt, grown es ls ms so.1)
 grown (Send to m ∷ es) ls ms so = (tt, grown es ls ms so.1)
 
-walk : (e k : ℕ) (v : Parts) (outs : List Effect) (d : Disk) (M : Seen) → AllByRecursion (SaidIn (IsChanged M.lines)) outs → LinesChanged M →
+walk : (e k : ℕ) (v : Parts) (outs : List Effect) (d : Disk) (M : Seen) → AllByRecursion (SaidIn (IsChanged M.lines)) outs →
+    LinesChanged M →
     Walks LinesChanged e k outs (Up LinesChanged k v) d M
 walk e k v [] d M so h = h
 walk e k v (Do w ∷ es) d M so h = ((λ how. one_line e (body.Halted k) M tt h), walk e k v es (worked w d) M so.1 h)

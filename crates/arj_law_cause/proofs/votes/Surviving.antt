@@ -1,7 +1,8 @@
 -- A call that writes, where the lock machine has committed each action between it and its top, is a surviving write of that top by the
 -- journal to which the machine is tied.
 use Rattle.arj_law_parts.proofs.Words
-use Words.{◌≡◌, ◌∙◌, ◌⊎◌, ℕ, ◌==◌, ◌&&◌, List, [], ◌∷◌, Bool, true, false, Option, Some, None, refl, sym, ap, subst, inl, inr, cons_option, eq-eqb}
+use Words.{◌≡◌, ◌∙◌, ◌⊎◌, ℕ, ◌==◌, ◌&&◌, List, [], ◌∷◌, Bool, true, false, Option, Some, None, refl, sym, ap, subst, inl, inr}
+use Words.{cons_option, eq-eqb}
 use Words.{filter_map, list_all, Line, In, in_to, is_serial}
 use Rattle.arj_law_serial.proofs.Terms
 use Terms.{Act, Placed, Said, Values, acts, chain_in, committed, has_end, is_top, new_book, top_in, call_of, AreCallsOf, AreRight, AreSound}

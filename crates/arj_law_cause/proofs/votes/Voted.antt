@@ -1,7 +1,8 @@
 -- Where a commit has a changed state of an object the lock machine has a call of its top that writes, with all actions between them
 -- committed, whether or not naming knows of it still.
 use Rattle.arj_law_parts.proofs.Words
-use Words.{◌≡◌, ◌∙◌, ◌==◌, ◌&&◌, ℕ, Bool, true, false, List, Option, Some, None, refl, sym, ap, subst, and_parts, eqb-true, option_map, find}
+use Words.{◌≡◌, ◌∙◌, ◌==◌, ◌&&◌, ℕ, Bool, true, false, List, Option, Some, None, refl, sym, ap, subst, and_parts, eqb-true, option_map}
+use Words.{find}
 use Words.{in_find, in_find_none, in_from, in_to, eq-eqb, ObjectState, Over, Uid, Used, changed_of, has, over_of, binding_number, Plan}
 use Rattle.arj_law_serial.proofs.Terms
 use Terms.{State, Fixed, side_at, top}

@@ -51,7 +51,8 @@ machine_there hd x form there S r early = record {
 
 -- ---- a commit under way
 
-module _ (hd : Header) (x : ℕ) (form : HeaderInForm hd) (there : is_some (object_line hd x) ≡ true) (k : ℕ) (d : Disk) (v : Parts) (N : Seen)
+module _ (hd : Header) (x : ℕ) (form : HeaderInForm hd) (there : is_some (object_line hd x) ≡ true) (k : ℕ) (d : Disk) (v : Parts)
+    (N : Seen)
     (reached : Reached hd (up k d v N)) (early : IsEarly N.lines) where
   its : HasMachine hd x (up k d v N)
   its = machine_there hd x form there (up k d v N) reached early
