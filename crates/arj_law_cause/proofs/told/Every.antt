@@ -166,39 +166,38 @@ module _ (hd : Header) (r : Run hd) (form : IsInForm hd r) where
                         (λ h c. refl, found_row hd r form),
                         ((
                           (λ h c. refl, prepared_row hd r form),
+                          ((
+                            (λ h c. refl, done_row hd r form),
                             ((
-                              (λ h c. refl, done_row hd r form),
+                              (λ h c. refl, abort_row hd r form),
                               ((
-                                (λ h c. refl, abort_row hd r form),
+                                (λ h c. refl, told_row hd r form),
                                 ((
-                                  (λ h c. refl, told_row hd r form),
+                                  (λ h c. refl, granted_row hd r form),
                                   ((
-                                    (λ h c. refl, granted_row hd r form),
+                                    (λ h c. refl, granted_entry_row hd r form),
                                     ((
-                                      (λ h c. refl, granted_entry_row hd r form),
+                                      (λ h c. refl, bound_row hd r form),
                                       ((
-                                        (λ h c. refl, bound_row hd r form),
+                                        (λ h c. refl, active_row hd r form),
                                         ((
-                                          (λ h c. refl, active_row hd r form),
+                                          (λ h c. refl, lowered_row hd r form),
                                           ((
-                                            (λ h c. refl, lowered_row hd r form),
+                                            (λ h c. refl, sent_row hd r form),
                                             ((
-                                              (λ h c. refl, sent_row hd r form),
+                                              (λ h c. refl, got_row hd r form),
                                               ((
-                                                (λ h c. refl, got_row hd r form),
+                                                (λ h c. refl, void_row hd r form),
                                                 ((
-                                                  (λ h c. refl, void_row hd r form),
+                                                  (λ h c. refl, dropped_row hd r form),
                                                   ((
-                                                    (λ h c. refl, dropped_row hd r form),
+                                                    (λ h c. refl, limit_row hd r form),
                                                     ((
-                                                      (λ h c. refl, limit_row hd r form),
+                                                      (λ h c. refl, quiet_row hd r form),
                                                       ((
-                                                        (λ h c. refl, quiet_row hd r form),
-                                                        ((
-                                                          (λ h c. refl, entry_row hd r form),
-                                                          (
-                                                              ((λ h c. refl, copy_row hd r form), tt)),
-                                                        )),
+                                                        (λ h c. refl, entry_row hd r form),
+                                                        (
+                                                            ((λ h c. refl, copy_row hd r form), tt)),
                                                       )),
                                                     )),
                                                   )),
@@ -213,6 +212,7 @@ module _ (hd : Header) (r : Run hd) (form : IsInForm hd r) where
                                 )),
                               )),
                             )),
+                          )),
                         )),
                       )),
                     )),

@@ -236,7 +236,7 @@ module _ (hd : Header) (form : HeaderInForm hd) (k : ℕ) (d : Disk) (v : Parts)
             let one : cs ≡ st = (let e : ◌≡◌ {A = Option ObjectState} (Some cs) (Some st) = same in cc e) in
             let f = in_find (λ (z : ObjectState). uid_eq z.uid (object w.0.x)) cs (let y = plan_of m in y.changed) is in
             moved w.0.x (ap (λ (z : ObjectState). let y = z.uid in y.num) (sym one) ∙ ap (λ (z : Uid). z.num) (uid_is cs.uid
-                (object w.0.x) f.1))
+            (object w.0.x) f.1))
             (or_left (has_written N.lines (let a = its_act in a.id) w.0.x) (has_some (joins_of N.lines (let a = its_act in a.id) w.0.x))
             (has_changed early w.0 w.1 cs is))
         wrote cs is false same = let no_way : ◌≡◌ {A = Option ObjectState} None (Some st) = same in absurd (cc no_way)
