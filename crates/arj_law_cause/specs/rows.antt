@@ -1,3 +1,4 @@
+pub mod Early
 pub mod Tables
 pub mod Says
 pub mod Runs

@@ -10,11 +10,11 @@ ghost use Rattle.arj_law_cause.specs.rows.Lines.{AnswersHaveCauses};
 /// began, and isn't on the path that asks. An include is of this store for this object, and at some place of its span the
 /// table of naming's node had its top's write lock on the entry. And what is lost was given up in the event, as the line before
 /// says. Of one answer it says less: of a conflict that a store says, over a state in doubt, it says that this node answered a
-/// Load in the span, and may be a store of the object by the journal, of an action that began and isn't on the path that asks; and that
-/// since its commit was called it prepared something there, or the node stopped, and no end of it is done there since. Of one more line
-/// it says a part: one that says what changed is of a call, and an answer that
-/// finds it was made in the span by the node that is named, or by naming for it, unless the action runs at either. It does
-/// nothing when it runs.
+/// Load in the span, and may be a store of the object by the journal, of an action that began, isn't on the path that asks, and by
+/// then had changed the object; and that since its commit was called it prepared something there, or the node stopped, whatever it
+/// was doing, and no end of it is done there since. Of one more line it says a part: one that says what changed is of a call,
+/// and an answer that finds it was made in the span by the node that is named, or by naming for it, unless the action runs at
+/// either. It does nothing when it runs.
 pub fn answers_have_causes()
     ensures runs { AnswersHaveCauses }
 {}

@@ -21,7 +21,7 @@ use Rattle.arj_model.specs.Last.{changer_from, changers, entry_from, listed_afte
 use Rattle.arj_model.specs.Last.{uid_of_id}
 use Rattle.arj_model.specs.Actions.{committed, recovered, is_committed}
 use Rattle.arj_model.specs.Serial.{arrange, insert, lex, serial_key}
-use Rattle.arj_law_cause.proofs.confirm.Labels.{HasFewActs}
+use Rattle.arj_law_cause.specs.rows.Early.{HasFewActs}
 use Rattle.arj_law_cause.proofs.rows.Holders.{one_passes}
 use Rattle.arj_law_cause.proofs.spelled.Lists.{filter_map_shorter}
 

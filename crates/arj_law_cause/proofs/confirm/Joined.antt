@@ -9,7 +9,7 @@ use Terms.{SeesHeard}
 use Rattle.arj_law_disk_view.proofs.running.ListedRuns.{IsSeenBegun}
 use Rattle.arj_law_parts.specs.moves.Keeps.{Holds}
 use Rattle.arj_law_parts.specs.moves.Seen.{Within, with_sent}
-use Rattle.arj_law_runs.specs.calls.Bindings.{HasFewBindings}
+pub use Rattle.arj_law_cause.specs.rows.Early.{IsEarly}
 use Rattle.arj_law_serial.proofs.joint
 use joint.{Clean.AreJoined, Clean.clean_of, Clean.decides_in, Clean.held_in, Clean.lock_tied, Clean.reached_both, Fits.fits_before}
 use joint.{JoinKeeps.WithTurns, JoinKeeps.turns_part, Joining.WithLocks}
@@ -19,7 +19,7 @@ use joint.OrderedRuns.{IsOrderedBeside, ordered_beside}
 use Rattle.arj_law_runs.proofs.calls.WholeRuns.{few_before}
 use Rattle.arj_law_runs.proofs.journal.Owners.{acts_more}
 use Rattle.arj_model.specs.Actions.{Act, acts, acts_after, acts_from}
-use Rattle.arj_law_cause.proofs.confirm.Labels.{HasFewActs, reached_world, world_of}
+use Rattle.arj_law_cause.proofs.confirm.Labels.{reached_world, world_of}
 use Rattle.arj_law_cause.proofs.confirm.Reached.{IsOfWorld, Reached, sees_at, within_of, world_at}
 
 -- ---- a world
@@ -50,12 +50,6 @@ module _ (hd : Header) (x : ℕ) (form : HeaderInForm hd) (there : is_some (obje
       (base hd x form there (λ M. ⊤) (λ f S M. ⊤) (λ M N l f S T run past. tt) (λ f S st formed. tt)) part w reached fit
 
 -- ---- a moment
-
--- the journal's part in form: few bindings were made, few actions began, and answered operations are in form
-pub record IsEarly (lines : List Line) : Type 0 where
-  pub few : HasFewBindings lines
-  pub short : HasFewActs lines
-  pub fit : (x : ℕ) → OpsFit x lines
 
 -- lines make no fewer actions
 grow_from : (us : List Act) (ls : List Line) → length us ≤ length (acts_from us ls)

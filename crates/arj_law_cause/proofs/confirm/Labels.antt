@@ -12,6 +12,7 @@ use Terms.{Act, act_in, acts, acts_from, book, new_book, turned, AreRight, IsGiv
 use Terms.{at, down}
 use Rattle.arj_law_parts.proofs.moves.{Happens.keeps_asked, Moving.moves_asked}
 use Rattle.arj_law_runs.proofs.bindings.{Doings.one_more, Events.moves_labels}
+use Rattle.arj_law_cause.specs.rows.Early.{HasFewActs}
 use Rattle.arj_law_runs.proofs.forms.Labels.{acts_less}
 use Rattle.arj_law_runs.proofs.journal.{Books.book_more, Models.its_acts, Owners.acts_more, Runs.lines_keep}
 use Rattle.arj_law_runs.specs.calls.{Bindings.HasFewBindings, Reached.IsReached}
@@ -138,10 +139,6 @@ module _ (hd : Header) where
       (first_since (down k d L) L refl refl refl) way) (as_many (down k d L) r)
 
 -- ---- worlds
-
--- the journal has few actions: as many as labels may be given
-abbrev pub HasFewActs : List Line → Type 0
-HasFewActs lines = length (acts lines) ≤ most_labels
 
 -- the world of what is reached
 abbrev pub world_of : (hd : Header) (S : Seen) → Reached hd S → IsOfWorld hd S

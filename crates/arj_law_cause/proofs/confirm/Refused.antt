@@ -33,6 +33,7 @@ use Rattle.arj_law_runs.specs.journal.Book.{Book, book, is_decided, is_top, new_
 use Rattle.arj_law_runs.specs.journal.Knows.{IsEnd}
 use Rattle.arj_law_serial.proofs.order.Order.{own as own_top}
 use Rattle.arj_law_cause.proofs.rows.Paths.{uid_of_top}
+use Rattle.arj_law_cause.specs.rows.Early.{IsEarly}
 use Rattle.arj_law_cause.proofs.confirm.{Called.called_more, Entries.decided_more}
 use Rattle.arj_model.specs.Actions.{top_in}
 use Rattle.arj_law_runs.specs.journal.Right.{AreRight}
@@ -45,7 +46,7 @@ use Rattle.arj_model.specs.CauseSpans.{Here, answered, commit_here, commits_so}
 use Rattle.arj_model.specs.Last.{is_among, joins_of, leaves_of, listed, object_line}
 use Rattle.arj_model.specs.Refusals.{is_committing}
 use Rattle.arj_law_cause.proofs.confirm.{Called.Based, Called.BasedCalled, Called.called_keep, Called.is_called, Included.included_join}
-use Rattle.arj_law_cause.proofs.confirm.{Included.none_left, Joined.IsEarly, Joined.early_before, Plain.why_of, Reached.Reached}
+use Rattle.arj_law_cause.proofs.confirm.{Included.none_left, Joined.early_before, Plain.why_of, Reached.Reached}
 use Rattle.arj_law_cause.proofs.confirm.{Reached.reached_has}
 use Rattle.arj_law_cause.proofs.confirm.{Says.confirms_so, Says.refuses}
 use Rattle.arj_law_cause.proofs.confirm.{Says.says_of, Spans.commits_at, Spans.place}

@@ -31,7 +31,8 @@ use Rattle.arj_model.specs.Caused.{has_cause}
 use Rattle.arj_model.specs.Follows.{Runs}
 use Rattle.arj_model.specs.Past.{Along, Past, block, next}
 use Rattle.arj_promise.specs.Runs.{IsInForm, Run, journal_by}
-use Rattle.arj_law_cause.proofs.confirm.{Joined.IsEarly, Joined.early_before, Labels.runs_have_few, Plain.Ends, Plain.Heard, Plain.Plain}
+use Rattle.arj_law_cause.specs.rows.Early.{IsEarly}
+use Rattle.arj_law_cause.proofs.confirm.{Joined.early_before, Labels.runs_have_few, Plain.Ends, Plain.Heard, Plain.Plain}
 use Rattle.arj_law_cause.proofs.confirm.{Plain.Rests}
 use Rattle.arj_law_cause.proofs.confirm.{Plain.acts_plain}
 use Rattle.arj_law_cause.proofs.confirm.{Plain.heard_is, Plain.parts_plain, Plain.plain, Reached.Reached}

@@ -32,8 +32,9 @@ use Rattle.arj_law_promise.specs.meant.Meant.{AskFits, MeantAreKnown}
 use Rattle.arj_law_serial.proofs.joint.Clean.{object_some}
 use Rattle.arj_law_serial.proofs.order.Entries.{stores_back}
 use Rattle.arj_law_lock_view.specs.facts.Entries.{HasObject}
+use Rattle.arj_law_cause.specs.rows.Early.{IsEarly}
 use Rattle.arj_law_cause.proofs.confirm.{Called.BasedCalled, Called.called_keep, Called.called_more, Called.is_called, Free.joined_free}
-use Rattle.arj_law_cause.proofs.confirm.{Free.locked_free, Free.unheld_so, Joined.IsEarly, Joined.IsSeenSo, Joined.seen_so}
+use Rattle.arj_law_cause.proofs.confirm.{Free.locked_free, Free.unheld_so, Joined.IsSeenSo, Joined.seen_so}
 use Rattle.arj_law_cause.proofs.confirm.{Reached.Reached}
 use Rattle.arj_law_cause.proofs.confirm.{Reached.reached_has, Replies.IsRefused, Replies.LeavesNone, Replies.bare_found, Replies.found_so}
 use Rattle.arj_law_cause.proofs.confirm.{Replies.listed_found, Replies.refused}

@@ -26,9 +26,9 @@ use Rattle.arj_law_parts.specs.moves.Moments.{said}
 use Rattle.arj_law_parts.specs.moves.Moments.{sent, up, with_asking}
 use Rattle.arj_law_parts.specs.moves.With.{ArePlain, IsFirst, KeepsSteps, UpWith, WalksWith, is_plain_line}
 use Rattle.arj_law_parts.specs.moves.Seen as seen
-use Rattle.arj_law_runs.proofs.calls.WholeRuns.{few_before}
+use Rattle.arj_law_cause.proofs.confirm.Joined.{early_before}
 use Rattle.arj_law_runs.proofs.follow.Walking.{behind_all}
-use Rattle.arj_law_runs.specs.calls.Bindings.{HasFewBindings}
+use Rattle.arj_law_cause.specs.rows.Early.{IsEarly}
 use Rattle.arj_law_runs.specs.follow.Frames.{are_so}
 use Rattle.arj_model.specs.CauseSpans.{Here, behind}
 use Rattle.arj_model.specs.Past.{Asked as AskedOf}
@@ -161,7 +161,7 @@ module _ (hd : Header) (st : Start) (before : List Line) (event : ℕ) where
     pub wrote : List Body
     pub lines : M.seen.lines ≡ before ++ numbered event wrote
     pub paths : AskedPaths M
-    pub fit : HasFewBindings M.seen.lines → (accepted : List AskedOf) → AreSameAsks accepted (accepted_of M.past.askings) →
+    pub fit : IsEarly M.seen.lines → (accepted : List AskedOf) → AreSameAsks accepted (accepted_of M.past.askings) →
         are_so answer_fits (here_of accepted M before) wrote ≡ true
 
   more : (M : Moment) (ws bs : List Body) → M.past.number ≡ event → M.seen.lines ≡ before ++ numbered event ws →
@@ -170,7 +170,7 @@ module _ (hd : Header) (st : Start) (before : List Line) (event : ℕ) where
       ∙ ap (λ ls. before ++ ls) (sym (map-append (λ (b : Body). record { event = event; body = b }) ws bs))
 
   -- lines come that fit
-  said_so : (bs : List Body) (M : Moment) → (HasFewBindings M.seen.lines → (accepted : List AskedOf) →
+  said_so : (bs : List Body) (M : Moment) → (IsEarly M.seen.lines → (accepted : List AskedOf) →
       AreSameAsks accepted (accepted_of M.past.askings) → (h : Here) →
       h ≡ here_of accepted M M.seen.lines → are_so answer_fits h bs ≡ true) → Lined M → Lined (said bs M)
   said_so bs M fit h = record {
@@ -179,20 +179,20 @@ module _ (hd : Header) (st : Start) (before : List Line) (event : ℕ) where
     wrote = h.wrote ++ bs;
     lines = more M h.wrote bs h.number h.lines;
     paths = λ q i. path_more M.seen.lines (numbered M.past.number bs) q (h.paths q i);
-    fit = λ few accepted same. let fewer = few_before M.seen.lines (numbered M.past.number bs) few in
-        so_both (here_of accepted M before) h.wrote bs (h.fit fewer accepted same)
-        (fit fewer accepted same (behind_all (here_of accepted M before) h.wrote)
+    fit = λ early accepted same. let earlier = early_before M.seen.lines (numbered M.past.number bs) early in
+        so_both (here_of accepted M before) h.wrote bs (h.fit earlier accepted same)
+        (fit earlier accepted same (behind_all (here_of accepted M before) h.wrote)
         (behind_is (here_of accepted M before) h.wrote ∙ (λ i. here_of accepted M (sym h.lines i))));
   }
 
   pub free_lined : (bs : List Body) (M : Moment) → AllByRecursion FitsAnywhere bs → Lined M → Lined (said bs M)
-  free_lined bs M all h = said_so bs M (λ few accepted same g is. free_so g bs all) h
+  free_lined bs M all h = said_so bs M (λ early accepted same g is. free_so g bs all) h
 
-  one_lined : (b : Body) (M : Moment) → (HasFewBindings M.seen.lines → (accepted : List AskedOf) →
+  one_lined : (b : Body) (M : Moment) → (IsEarly M.seen.lines → (accepted : List AskedOf) →
       AreSameAsks accepted (accepted_of M.past.askings) → answer_fits (here_of accepted M M.seen.lines) b ≡ true) →
       Lined M → Lined (said (b ∷ []) M)
   one_lined b M fits h = said_so (b ∷ []) M
-      (λ few accepted same g is. λ i. (ap (λ z. answer_fits z b) is ∙ fits few accepted same) i && true) h
+      (λ early accepted same g is. λ i. (ap (λ z. answer_fits z b) is ∙ fits early accepted same) i && true) h
 
   same_lined : (M N : Moment) → N.past ≡ M.past → N.seen.lines ≡ M.seen.lines → Lined M → Lined N
   same_lined M N past lines h = record {
@@ -202,7 +202,7 @@ module _ (hd : Header) (st : Start) (before : List Line) (event : ℕ) where
     lines = lines ∙ h.lines;
     paths = λ q there. let p = h.paths q (subst (λ (z : History). In q z.askings) past there) in
         record { first = p.first; more = p.more; are = lines ∙ p.are; path = p.path };
-    fit = λ few accepted same. (λ i. are_so answer_fits (record {
+    fit = λ early accepted same. (λ i. are_so answer_fits (record {
       header = hd;
       start = st;
       accepted = accepted;
@@ -211,7 +211,7 @@ module _ (hd : Header) (st : Start) (before : List Line) (event : ℕ) where
       first = length before;
       lines = before;
     }) h.wrote) ∙
-        h.fit (subst HasFewBindings lines few) accepted (same ∙ ap (λ (p : History). filter asks_some (accepted_of p.askings)) past);
+        h.fit (subst IsEarly lines early) accepted (same ∙ ap (λ (p : History). filter asks_some (accepted_of p.askings)) past);
   }
 
   framed_lined : (b : Body) (M : Moment) (n : ℕ) → FitsAnywhere b → Lined M →
@@ -248,7 +248,7 @@ module _ (hd : Header) (st : Start) (before : List Line) (event : ℕ) where
     wrote = [];
     lines = sym fresh ∙ h.first ∙ sym (append-nil before);
     paths = asked i;
-    fit = λ few accepted same. refl;
+    fit = λ early accepted same. refl;
   }
     where
       new : (l : Label) (q : Asking) → (asking_of l c M.past.run M.past.event ≡ q) ⊎ In q M.past.askings → IsPathAt M.seen.lines q
@@ -285,11 +285,11 @@ module _ (hd : Header) (st : Start) (before : List Line) (event : ℕ) where
       -- the line of a call that takes an answer
       line_fits : (from : ℕ) (m : Message) → seen.In (post from k m) M.seen.sent → (u : Uid) (w : Doing) (s : Steps) (g : CallEnd) →
           doing_of u t.coord ≡ Some w → w.now ≡ Calling s → (a : Asked) (r : Reply) → answers m ≡ Some (a, r) → a.act ≡ u →
-          waits_for_call from a r s ≡ true → EndsBy (kept_at s t.coord) s.goal s.at r g → HasFewBindings M.seen.lines →
+          waits_for_call from a r s ≡ true → EndsBy (kept_at s t.coord) s.goal s.at r g → IsEarly M.seen.lines →
           (accepted : List AskedOf) →
           AreSameAsks accepted (accepted_of M.past.askings) →
           answer_fits (here_of accepted M M.seen.lines) (end_line s.x s.goal g w.label) ≡ true
-      line_fits from m there u w s g found is a r answer act waits ends few accepted same = by g ends
+      line_fits from m there u w s g found is a r answer act waits ends early accepted same = by g ends
         where
           by : (g : CallEnd) → EndsBy (kept_at s t.coord) s.goal s.at r g →
               answer_fits (here_of accepted M M.seen.lines) (end_line s.x s.goal g w.label) ≡ true
@@ -312,13 +312,13 @@ module _ (hd : Header) (st : Start) (before : List Line) (event : ℕ) where
           by (Conflict v held n) ends = conflict_so hd k M (here_of accepted M M.seen.lines) refl refl
               (asks_same accepted (accepted_of M.past.askings) same) u w s (caller hd k d t M W u w s found is)
               h.paths (kept_of s.x (root_at (root_of s.path) t.coord)) (stands_on hd k d t M W u w s found is) from a r
-              (taken hd k d t M W u w s found is from m there a r answer act waits) W.form
+              (taken hd k d t M W u w s found is from m there a r answer act waits) W.form early
               (off_called hd k d t M W u w s found is) v held n ends
           by (Changed n x) ends = changed_so hd k M (here_of accepted M M.seen.lines) refl refl
               (asks_same accepted (accepted_of M.past.askings) same) u w s (caller hd k d t M W u w s found is) h.paths
               (kept_of s.x (root_at (root_of s.path) t.coord)) (stands_on hd k d t M W u w s found is) from a r
               (taken hd k d t M W u w s found is from m there a r answer act waits)
-              (λ y old st at keeps same_binding. one_server hd k d t M W u w s found is few y old st at keeps same_binding) n ends
+              (λ y old st at keeps same_binding. one_server hd k d t M W u w s found is early.few y old st at keeps same_binding) n ends
           by (Lost n b) ends = absurd (none_full ends.0 (subst ReplyFull ends.1
               (full_reply hd k d t M W u w s found is from m there a r answer act waits)) ends.2)
 
@@ -364,11 +364,11 @@ module _ (hd : Header) (st : Start) (before : List Line) (event : ℕ) where
           lost : (u : Uid) (w : Doing) (s : Steps) (g : CallEnd) (m : Label) (b : Branch) → doing_of u t.coord ≡ Some w →
               w.now ≡ Calling s → input.GiveUp l ≡ input.GiveUp m → branch_named m t.coord ≡ Some b → u ≡ actor b.path →
               given_up s.at ≡ Ended g →
-              (let N = said (body.GaveUp w.label (next_node s) ∷ []) M in HasFewBindings N.seen.lines) → (accepted : List AskedOf) →
+              (let N = said (body.GaveUp w.label (next_node s) ∷ []) M in IsEarly N.seen.lines) → (accepted : List AskedOf) →
               AreSameAsks accepted (accepted_of M.past.askings) →
               (let N = said (body.GaveUp w.label (next_node s) ∷ []) M in
               answer_fits (here_of accepted N N.seen.lines) (end_line s.x s.goal g w.label) ≡ true)
-          lost u w s g m b found calls gives named at_act ends few accepted same =
+          lost u w s g m b found calls gives named at_act ends early accepted same =
               let its = given_lost s.at g ends in
               let N = said (body.GaveUp w.label (next_node s) ∷ []) M in
               let H = here_of accepted N N.seen.lines in

@@ -615,7 +615,7 @@ number_off k j other = by (k == j) refl
     by true is = absurd (other (sym (Words.eqb-true k j is)))
 
 -- what a node has prepared is sorted
-sorted_of : (k : ℕ) (c : Disk) (live : Option Parts) (M : Seen) → IsRight (at k c live M) → objects.AreSorted (let p = c.store in p.pend)
+pub sorted_of : (k : ℕ) (c : Disk) (live : Option Parts) (M : Seen) → IsRight (at k c live M) → objects.AreSorted (let p = c.store in p.pend)
 sorted_of k c live M right =
     let a = (let z = right.0.0.1 in z.2.1) in
     let n = a.nodes k (record { number = k; disk = c; live = live }) (here k c live M) in

@@ -47,7 +47,9 @@ use Rattle.arj_law_cause.proofs.rows.Spans.{answered_at, in_range, or_first, or_
 use Rattle.arj_law_cause.proofs.rows.Taking.{AskedPaths, IsCaller, IsTaken, bind_is}
 use Rattle.arj_law_cause.specs.rows.Lines.{came_from_store, was_called}
 use Rattle.arj_law_cause.proofs.rows.Pending.{IsCalledAt, called_act}
-use Rattle.arj_law_cause.specs.rows.Says.{entry_modes, has_upper, may_be_in_doubt, may_be_pending, may_pend, says_of}
+use Rattle.arj_law_cause.proofs.confirm.Joined.{early_before}
+use Rattle.arj_law_cause.specs.rows.Early.{IsEarly}
+use Rattle.arj_law_cause.specs.rows.Says.{entry_modes, has_changed, has_upper, may_be_in_doubt, may_be_pending, may_pend, says_of}
 
 -- ---- requests
 
@@ -436,10 +438,10 @@ module _ (hd : Header) (k : ℕ) (M : Moment) (h : Here) (header : h.header ≡ 
         by false = λ j. met j || meets_at_store h c.act q s.x v m from
 
     -- a store's conflict, with one whose commit was called
-    pub store_so : HeaderInForm hd → ((v : Uid) (ls ms : List Line) → M.seen.lines ≡ ls ++ ms → IsCalledAt ls v →
+    pub store_so : HeaderInForm hd → IsEarly M.seen.lines → ((v : Uid) (ls ms : List Line) → M.seen.lines ≡ ls ++ ms → IsCalledAt ls v →
         is_on (uids_of s.path) v ≡ false) → (x : Known) (n : ℕ) (rest : List ℕ) (v : Uid) (m : Mode) → s.at ≡ AtLoad x n rest →
         r ≡ Reply.Loaded (loaded.InDoubt v) → m ≡ mode.Write → came_from_store h (name w.label) v m from ≡ true
-    store_so form off x n rest v m at is write = λ i. same_mode (write i) mode.Write && (known v T.before T.after T.are began_then i
+    store_so form early off x n rest v m at is write = λ i. same_mode (write i) mode.Write && (known v T.before T.after T.are began_then i
         && row_so (λ y z. not (is_on (uids z.path) v) && holds_in (λ o. answered h z.at y.uid.node from (frame.Loaded ∷ [])
         (may_be_in_doubt h.header from v o)) (object_used z.event)) (λ j. (ap not (ap (λ us. is_on us v) its_path ∙ off v T.before T.after
         T.are called)) j && (ap (holds_in (λ o. answered h (let z = q in z.at) (let y = c.act.uid in y.node) from (frame.Loaded ∷ [])
@@ -449,6 +451,7 @@ module _ (hd : Header) (k : ℕ) (M : Moment) (h : Here) (header : h.header ≡ 
         request = load_is T.ask s.x (T.same ∙ (λ j. ask_at s.x s.goal [] (at j)))
 
         so : (may_be_pending from v T.before ≡ true) × (HeaderInForm hd → may_store hd T.before from s.x ≡ true)
+            × (HeaderInForm hd → IsEarly T.before → has_changed T.before v s.x ≡ true)
         so = subst (λ z. says_of hd from (head_of s) z (Reply.Loaded (loaded.InDoubt v)) T.before) request
             (subst (λ z. says_of hd from (head_of s) T.ask z T.before) is T.so)
 
@@ -467,21 +470,22 @@ module _ (hd : Header) (k : ℕ) (M : Moment) (h : Here) (header : h.header ≡ 
         found : answered h (let z = q in z.at) (let y = c.act.uid in y.node) from (frame.Loaded ∷ []) (may_be_in_doubt h.header from v s.x)
             ≡ true
         found = found_at frame.Loaded (ap (λ z. frame_kind (response a z)) is) refl (may_be_in_doubt h.header from v s.x)
-            (λ i. (ap (λ z. may_store z T.before from s.x) header ∙ so.1 form) i && so.0 i)
+            (λ i. so.2 form (early_before T.before T.after (subst IsEarly T.are early)) i
+            && ((ap (λ z. may_store z T.before from s.x) header ∙ so.1 form) i && so.0 i))
 
     -- any conflict's line
-    pub conflict_so : HeaderInForm hd → ((v : Uid) (ls ms : List Line) → M.seen.lines ≡ ls ++ ms → IsCalledAt ls v →
+    pub conflict_so : HeaderInForm hd → IsEarly M.seen.lines → ((v : Uid) (ls ms : List Line) → M.seen.lines ≡ ls ++ ms → IsCalledAt ls v →
         is_on (uids_of s.path) v ≡ false) → (v : Uid) (m : Mode) (n : ℕ) → IsConflict s.at r v m n →
         (conflict_caused h (name w.label) v m n || came_from_store h (name w.label) v m n) ≡ true
-    conflict_so form off v m n (ByNaming avoid at is one) =
+    conflict_so form early off v m n (ByNaming avoid at is one) =
         let its : n ≡ from = one ∙ ap (λ z. node_at z) (sym at) ∙ T.node in
         λ i. (ap (conflict_caused h (name w.label) v m) its ∙ naming_so avoid v m at is) i || came_from_store h (name w.label) v m n
-    conflict_so form off v m n (ByServer x i at is one) =
+    conflict_so form early off v m n (ByServer x i at is one) =
         let its : n ≡ from = one ∙ ap (λ z. node_at z) (sym at) ∙ T.node in
         λ j. (ap (conflict_caused h (name w.label) v m) its ∙ server_so x i v m at is) j || came_from_store h (name w.label) v m n
-    conflict_so form off v m n (ByStore x y rest at is write one) =
+    conflict_so form early off v m n (ByStore x y rest at is write one) =
         let its : n ≡ from = one ∙ ap (λ z. node_at z) (sym at) ∙ T.node in
-        by (conflict_caused h (name w.label) v m n) (ap (came_from_store h (name w.label) v m) its ∙ store_so form off x y rest v m at is write)
+        by (conflict_caused h (name w.label) v m n) (ap (came_from_store h (name w.label) v m) its ∙ store_so form early off x y rest v m at is write)
       where
         by : (b : Bool) → came_from_store h (name w.label) v m n ≡ true → (b || came_from_store h (name w.label) v m n) ≡ true
         by true it = refl

@@ -15,26 +15,27 @@ use Rattle.arj_law_lock_view.proofs.Terms.{same_number}
 use Rattle.arj_law_lock_view.proofs.moments.Answers.{Known, answers_step, first_made, known_wide, made_closes, made_later, made_opens}
 use Rattle.arj_law_lock_view.specs.moments.Made.{AnswersAreMade, Tells, lines_behind}
 use Rattle.arj_law_parts.proofs.moves.{Events.closes_at, Events.happened, Events.opens_at, Events.same_run, Firsts.first_stands}
-use Rattle.arj_law_parts.proofs.moves.{Happens.Wide, Happens.arms_hold, Happens.wide_steps, Together.with_both}
+use Rattle.arj_law_parts.proofs.moves.{Happens.Wide, Happens.arms_hold, Happens.wide_kept, Happens.wide_steps, Together.with_both}
 use Rattle.arj_law_parts.proofs.moves.Worlds.{says_hold}
 use Rattle.arj_law_parts.specs.moves.Moments as Moments
 use Rattle.arj_law_parts.specs.moves.Moments.{History, Moment, asks_now, come, given, no_history, said}
 use Rattle.arj_law_parts.specs.moves.Seen as seen
-use Rattle.arj_law_parts.specs.moves.With.{Closes, HoldsAt, HoldsWith, KeepsSteps, Opens, UpWith, Wrote, asked_of_node, look, past_event}
+use Rattle.arj_law_parts.specs.moves.With.{Closes, HoldsAt, HoldsWith, KeepsSteps, KeepsWith, Opens, UpWith, Wrote, asked_of_node, look, past_event}
 use Rattle.arj_law_parts.specs.moves.With.{past_moves, past_unless, written}
 use Rattle.arj_law_parts.specs.steps.Writes as writes
 use Rattle.arj_law_serial.proofs.holding.{Events.IsShown, Events.event_shown, Events.first_is_shown, Events.first_showing}
 use Rattle.arj_law_serial.proofs.holding.{Events.later_off, Running.Known as KnownOf, Running.Showing, Running.showing_kept}
 use Rattle.arj_model.specs.Past.{Past}
-use Rattle.arj_law_cause.proofs.kinds.Nodes.{wide_all}
+use Rattle.arj_law_cause.proofs.confirm.Reached.{Reached, reached_kept}
+use Rattle.arj_law_cause.proofs.rows.Changing.{doubt_changed}
 use Rattle.arj_law_cause.proofs.rows.{Inside.inside_step, Telling.served_says, Telling.silent_front, Telling.table_then}
 use Rattle.arj_law_cause.proofs.rows.Pending.{StoresPend, pending_keep}
 use Rattle.arj_law_cause.proofs.rows.Stores.{StoresAreKnown, stored_keep}
-use Rattle.arj_law_promise.proofs.Terms.{Keeps, keeps_given, kept_both}
+use Rattle.arj_law_promise.proofs.Terms.{IsAtStarts, KeepsAsked, asked_both, keeps_asked, keeps_given, kept_both}
 use Rattle.arj_law_parts.proofs.moves.Flat.{post}
 use Rattle.arj_model.specs.CausePends.{may_store}
 use Rattle.arj_law_promise.proofs.settling.{Stills.IsRight}
-use Rattle.arj_law_cause.specs.rows.{Runs.RunsMeetRows, Says.may_be_pending, Says.says_so, Tables.Inside, Tables.Tables}
+use Rattle.arj_law_cause.specs.rows.{Early.IsEarly, Runs.RunsMeetRows, Says.has_changed, Says.may_be_pending, Says.says_so, Tables.Inside, Tables.Tables}
 
 -- ---- two relations
 
@@ -66,13 +67,18 @@ steps_both hd P Q p q = record {
 
 -- ---- what is known between events
 
--- outcomes, what stores have prepared, and which nodes may be stores
+-- outcomes, what stores have prepared, and which nodes may be stores; and what is seen has come about by what nodes do
 abbrev pub Right : Header → Seen → Type 0
-Right hd S = (IsRight S × StoresPend S) × StoresAreKnown hd S
+Right hd S = ((IsRight S × StoresPend S) × StoresAreKnown hd S) × Reached hd S
 
-right_keep : (hd : Header) → Keeps hd (Right hd)
-right_keep hd = kept_both hd (λ S. IsRight S × StoresPend S) (StoresAreKnown hd) (pending_keep hd)
-    (keeps_given hd (λ S. IsRight S × StoresPend S) (StoresAreKnown hd) (stored_keep hd))
+right_keep : (hd : Header) → KeepsAsked hd (Right hd)
+right_keep hd = asked_both hd (λ S. (IsRight S × StoresPend S) × StoresAreKnown hd S) (Reached hd)
+    (keeps_asked hd (λ S. (IsRight S × StoresPend S) × StoresAreKnown hd S)
+    (kept_both hd (λ S. IsRight S × StoresPend S) (StoresAreKnown hd) (pending_keep hd)
+    (keeps_given hd (λ S. IsRight S × StoresPend S) (StoresAreKnown hd) (stored_keep hd)))) (reached_kept hd)
+
+right_wide : (hd : Header) → KeepsWith hd (IsAtStarts hd (Right hd)) (Wide (Right hd))
+right_wide hd = wide_kept hd (IsAtStarts hd (Right hd)) (Right hd) (right_keep hd)
 
 abbrev pub Base : Seen → Type 0
 Base S = (begun : List Action) × KnownOf begun S
@@ -106,14 +112,19 @@ module _ (hd : Header) (before : List Line) (event : ℕ) (early : (j : ℕ) →
       silent in
       served_says hd before event early k d t v from h r front (lines_behind M.past.number front M.seen.lines) shown.0 shown.1
       l.place (λ u none held. subst (λ es. may_be_pending k u (lines_behind M.past.number es M.seen.lines) ≡ true) (sym none)
-      (both.1.2.0.1 k n u (λ i. if same_number k i then Some (record { number = k; disk = d; live = Some t }) else M.seen.nodes k) held))
+      (both.1.2.0.0.1 k n u (λ i. if same_number k i then Some (record { number = k; disk = d; live = Some t }) else M.seen.nodes k) held))
       a new (λ x same none form. subst (λ es. may_store hd (lines_behind M.past.number es M.seen.lines) k x ≡ true) (sym none)
-      (let z = both.1.2.1.1 in z.loads (post from k m) h x (both.1.1 (post from k m) there)
-      (asking ∙ ap (λ y. Some (h, y)) same) form)) served
+      (let z = both.1.2.0.1.1 in z.loads (post from k m) h x (both.1.1 (post from k m) there)
+      (asking ∙ ap (λ y. Some (h, y)) same) form)) (λ x u same none held form.
+      subst (λ es. IsEarly (lines_behind M.past.number es M.seen.lines) →
+      has_changed (lines_behind M.past.number es M.seen.lines) u x ≡ true) (sym none)
+      (doubt_changed hd _ both.1.2.1 k n x u
+      (λ i. if same_number k i then Some (record { number = k; disk = d; live = Some t }) else M.seen.nodes k) held form))
+      served
 
   pub event_step : KeepsSteps hd (InEvent hd before event)
   event_step = answers_step hd (says_so hd) (λ M. Tables hd before event M × Wide (Right hd) M)
-      (steps_both hd (Tables hd before event) (Wide (Right hd)) tables_step (let k = wide_all hd (Right hd) (right_keep hd) in k.steps))
+      (steps_both hd (Tables hd before event) (Wide (Right hd)) tables_step (let k = right_wide hd in k.steps))
       (λ M h. h.0.0.0) tells
 
 -- ---- events
@@ -250,7 +261,7 @@ module _ (hd : Header) (P : Moment → Type 0) (I : List Line → ℕ → Moment
                         (body.Limit which.Labels ∷ [])
                         (seen.with_sent b.0 M.seen) refl (shows (seen.with_sent b.0 M.seen) refl refl b.2)) in (b.0, b.1, (r.0, r.1))),
                   ),
-                  (let k = wide_all hd (Right hd) (right_keep hd) in (let q = k.steps in q.quiet (body.Limit which.Labels ∷ []) M refl c.0.1)),
+                  (let k = right_wide hd in (let q = k.steps in q.quiet (body.Limit which.Labels ∷ []) M refl c.0.1)),
                 ),
                 made_later (says_so hd) M (said (body.Limit which.Labels ∷ []) M) (record {
                   more = numbered M.past.number (body.Limit which.Labels ∷ []);
@@ -347,7 +358,7 @@ module _ (hd : Header) (P : Moment → Type 0) (I : List Line → ℕ → Moment
                 ([], (λ p i. i), (let k = known_wide hd in k.first st formed)),
                 ([], (λ p i. i), (let s = first_showing hd 0 st formed in (s.0, s.1))),
               ),
-              (let k = wide_all hd (Right hd) (right_keep hd) in k.first st formed),
+              ([], (λ p i. i), (let k = right_wide hd in k.first st formed)),
             ),
             first_made hd (says_so hd) st formed,
           ),

@@ -43,7 +43,7 @@ use Rattle.arj_law_cause.proofs.rows.Holders.{begun_act, entry_upper, upper_act}
 use Rattle.arj_law_cause.proofs.rows.Meeting.{Meets, bind_meets, bind_writes, invoke_meets, invoke_runs, lock_by, meets_by}
 use Rattle.arj_journal.specs.ScriptForm.{HeaderInForm}
 use Rattle.arj_model.specs.CausePends.{may_store}
-use Rattle.arj_law_cause.specs.rows.{Says.has_upper, Says.says_of, Says.may_be_pending, Tables.Inside}
+use Rattle.arj_law_cause.specs.rows.{Early.IsEarly, Says.has_changed, Says.has_upper, Says.says_of, Says.may_be_pending, Tables.Inside}
 use Rattle.arj_law_parts.proofs.parts.LivesNamed.{all_found}
 use Terms.{IsEntryRow}
 use Terms.{HaveUpper}
@@ -350,8 +350,9 @@ module _ (hd : Header) (before : List Line) (event : ℕ) (early : (j : ℕ) →
         with_it (Some o) there e = named o there e
 
     loaded_says : (x : ℕ) → (front ≡ [] → HeaderInForm hd → may_store hd lines k x ≡ true) →
+        ((u : Uid) → front ≡ [] → holder_of (object x) d.store ≡ Some u → HeaderInForm hd → IsEarly lines → has_changed lines u x ≡ true) →
         Sent (serve k d t from h (ask.Load x)) → says_of hd k h (ask.Load x) r lines
-    loaded_says x stores is = by (holder_of (object x) d.store) refl is
+    loaded_says x stores changed is = by (holder_of (object x) d.store) refl is
       where
         held : (o : Option ObjectState) → Sent (load_held from h t o) → says_of hd k h (ask.Load x) r lines
         held None e = let no_way : Void (Do Look ∷ []) ≡ Took v (front ++ Send from (response (asked_by h) r) ∷ []) = e in absurd
@@ -364,16 +365,18 @@ module _ (hd : Header) (before : List Line) (event : ℕ) (early : (j : ℕ) →
         by (Some u) at e = let z = replied t [] (Reply.Loaded (loaded.InDoubt u)) e in
             let none : front ≡ [] = sym (init_is front (Send from (response (asked_by h) r))) ∙ ap init_of (sym (ap outs_in e)) in
             subst (λ y. says_of hd k h (ask.Load x) y lines) (sym z.0)
-            (doubts u none (holder_prepared (object x) u d.store at), λ form. stores none form)
+            (doubts u none (holder_prepared (object x) u d.store at), (λ form. stores none form), changed u none at)
 
     pub served_says : (a : Ask) → is_again h a t.server ≡ false →
         ((x : ℕ) → a ≡ ask.Load x → front ≡ [] → HeaderInForm hd → may_store hd lines k x ≡ true) →
+        ((x : ℕ) (u : Uid) → a ≡ ask.Load x → front ≡ [] → holder_of (object x) d.store ≡ Some u → HeaderInForm hd → IsEarly lines →
+        has_changed lines u x ≡ true) →
         Sent (serve k d t from h a) → says_of hd k h a r lines
-    served_says (ask.Invoke x b i ends o) new stores is = invoked_says x b i ends o new is
-    served_says (ask.Bind x include avoid) new stores is = bound_says x include avoid is
-    served_says (ask.Load x) new stores is = loaded_says x (stores x refl) is
-    served_says (ask.Activate b st) new stores is = tt
-    served_says (ask.Record x b i g) new stores is = tt
-    served_says (ask.Vote i ties ends) new stores is = tt
-    served_says (ask.Prepare states) new stores is = tt
-    served_says (ask.Confirm grants excluded included) new stores is = tt
+    served_says (ask.Invoke x b i ends o) new stores changed is = invoked_says x b i ends o new is
+    served_says (ask.Bind x include avoid) new stores changed is = bound_says x include avoid is
+    served_says (ask.Load x) new stores changed is = loaded_says x (stores x refl) (λ u. changed x u refl) is
+    served_says (ask.Activate b st) new stores changed is = tt
+    served_says (ask.Record x b i g) new stores changed is = tt
+    served_says (ask.Vote i ties ends) new stores changed is = tt
+    served_says (ask.Prepare states) new stores changed is = tt
+    served_says (ask.Confirm grants excluded included) new stores changed is = tt

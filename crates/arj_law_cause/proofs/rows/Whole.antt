@@ -16,8 +16,7 @@ use Rattle.arj_law_parts.specs.moves.Moments.{History, Moment, come, gone, no_hi
 use Rattle.arj_law_parts.specs.moves.With.{KeepsSteps, KeepsWith, asked_at, asked_of_node, look, past_event, past_unless, written}
 use Rattle.arj_law_parts.specs.steps.Writes as writes
 use Rattle.arj_law_runs.proofs.addresses.Runs.{kept}
-use Rattle.arj_law_runs.proofs.bindings.Events.{moves_few}
-use Rattle.arj_law_runs.proofs.calls.{Given.keeps_given, WholeRuns.WhileFew, WholeRuns.few_before, WholeRuns.few_go}
+use Rattle.arj_law_runs.proofs.calls.{Given.keeps_given, WholeRuns.WhileFew, WholeRuns.few_go}
 use Rattle.arj_law_runs.proofs.follow.Along.{Ended, Outcome, Went, event_of, runs_along}
 use Rattle.arj_law_runs.proofs.follow.Frames as frames
 use Rattle.arj_law_runs.proofs.follow.Halts.{KnowsAll, halts_keep}
@@ -26,7 +25,7 @@ use Rattle.arj_law_runs.proofs.follow.Refusing as refusing
 use Rattle.arj_law_runs.proofs.follow.Refusing.{Came, IsRefused, IsRun, same_bodies}
 use Rattle.arj_law_runs.proofs.kept.AllRuns.{all_keep}
 use Rattle.arj_law_runs.specs.addresses.Addresses.{AreAddressed}
-use Rattle.arj_law_runs.specs.calls.{Bindings.HasFewBindings, Runs.KnowsFew}
+use Rattle.arj_law_runs.specs.calls.Runs.{KnowsFew}
 use Rattle.arj_law_runs.specs.follow.Frames.{FramesStep, are_so, run_events}
 use Rattle.arj_law_runs.specs.kept.Worlds.{IsGood}
 use Rattle.arj_journal.specs.ScriptForm.{HeaderInForm}
@@ -43,6 +42,8 @@ use Rattle.arj_law_cause.proofs.rows.Running.{Beside, InEvent, StandsSo, event_s
 use Rattle.arj_law_cause.proofs.rows.Locked.{LoadsAreLocked, first_locked, locked_step, more_are}
 use Rattle.arj_law_cause.proofs.rows.Taking.{AskedPaths, Works}
 use Rattle.arj_law_cause.proofs.waits.lost.Bound.{Stocked, stocked_keep}
+use Rattle.arj_law_cause.proofs.confirm.{Joined.early_before, Runs.runs_early}
+use Rattle.arj_law_cause.specs.rows.Early.{IsEarly}
 use Rattle.arj_law_cause.specs.rows.Lines.{AnswersHaveCauses, AnswersStep, answer_fits}
 
 none_is : {A P : Type 0} {x : A} → None ≡ Some x → P
@@ -60,9 +61,9 @@ same_event (Some a) w g = by (at_place a.0 w.nodes)
     by None = refl
     by (Some n) = refl
 
--- its answers fit, where naming makes few bindings by then
-abbrev FewStep : Header → Past → Event → List Body → Type 0
-FewStep hd p e bodies = HasFewBindings (p.lines ++ block (p.count + 1) bodies) → AnswersStep hd p e bodies
+-- its answers fit, where the journal is in form by then
+abbrev EarlyStep : Header → Past → Event → List Body → Type 0
+EarlyStep hd p e bodies = IsEarly (p.lines ++ block (p.count + 1) bodies) → AnswersStep hd p e bodies
 
 module _ (hd : Header) (form : HeaderInForm hd) (st : Start) where
   -- ---- what is known
@@ -150,7 +151,7 @@ module _ (hd : Header) (form : HeaderInForm hd) (st : Start) where
         wrote = [];
         lines = lines ∙ sym (append-nil before);
         paths = h.1;
-        fit = λ few accepted same. refl;
+        fit = λ early accepted same. refl;
       },
     );
     leaves = λ before event bodies M number lines h. (
@@ -330,8 +331,8 @@ module _ (hd : Header) (form : HeaderInForm hd) (st : Start) where
         -- each line has its cause
         run_fits : (let x = counted v in x.lines) ++ block (w.event + 1) bodies
             ≡ (limited (happens e arm (counted v))).lines →
-            FewStep hd p e bodies
-        run_fits lines few =
+            EarlyStep hd p e bodies
+        run_fits lines early =
             let H = Running.happened_at hd Between Inner its_beside s.history v armed e
             arm free on in
             let L = H.holds.1 in
@@ -345,7 +346,7 @@ module _ (hd : Header) (form : HeaderInForm hd) (st : Start) where
               number = count_is i + 1;
               first = length (lines_are i);
               lines = lines_are i;
-            }) (wrote i)) ∙ L.fit (subst HasFewBindings ((λ i. lines_are i ++ block (count_is i + 1) bodies) ∙ lines) few)
+            }) (wrote i)) ∙ L.fit (subst IsEarly ((λ i. lines_are i ++ block (count_is i + 1) bodies) ∙ lines) early)
             (next p e bodies).accepted accepted_same
 
       stands_then : refusing.Stands hd form (next p e bodies) (moved m w) → Agrees → Stands (next p e bodies) (moved m w)
@@ -358,15 +359,15 @@ module _ (hd : Header) (form : HeaderInForm hd) (st : Start) where
       }
 
       went : Came e arm (counted v) bodies →
-          refusing.Stands hd form (next p e bodies) (moved m w) → Outcome (FewStep hd) Stands m p w
-      went (IsRefused c refused is) base = Went bodies (λ few. ap (λ bs. are_so answer_fits (here_at hd p e bs) bs) is)
+          refusing.Stands hd form (next p e bodies) (moved m w) → Outcome (EarlyStep hd) Stands m p w
+      went (IsRefused c refused is) base = Went bodies (λ early. ap (λ bs. are_so answer_fits (here_at hd p e bs) bs) is)
           (stands_then base (refused_agrees c refused is))
       went (IsRun none isnt lines) base = Went bodies (run_fits none isnt lines) (stands_then base (run_agrees none isnt))
 
-    goes : Outcome (FewStep hd) Stands m p w
+    goes : Outcome (EarlyStep hd) Stands m p w
     goes = by (frames.goes hd form m p w stops (let b = s.base in b.base) on)
       where
-        by : Outcome (FramesStep hd) (frames.Stands hd form) m p w → Outcome (FewStep hd) Stands m p w
+        by : Outcome (FramesStep hd) (frames.Stands hd form) m p w → Outcome (EarlyStep hd) Stands m p w
         by (Ended over event lines) = Ended over event lines
         by (Went bodies step after) =
             let c = refusing.goes_with hd form m p w stops s.base on bodies after in
@@ -404,7 +405,7 @@ module _ (hd : Header) (form : HeaderInForm hd) (st : Start) where
     asks = refl;
   }
 
--- ---- few bindings
+-- ---- journals in form
 
 -- a run that goes on has more lines
 along_more : (P : Past → Event → List Body → Type 0) (es : List Event) (p end : Past) → Along P p es end →
@@ -414,25 +415,28 @@ along_more P (e ∷ es) p end h =
     let r = along_more P es (next p e h.0) end h.2 in
     (block (p.count + 1) h.0 ++ r.0, r.1 ∙ append_assoc p.lines (block (p.count + 1) h.0) r.0)
 
-few_along : (hd : Header) (es : List Event) (p end : Past) → Along (FewStep hd) p es end → HasFewBindings end.lines →
+early_along : (hd : Header) (es : List Event) (p end : Past) → Along (EarlyStep hd) p es end → IsEarly end.lines →
     Along (AnswersStep hd) p es end
-few_along hd [] p end h few = h
-few_along hd (e ∷ es) p end h few =
-    let r = along_more (FewStep hd) es (next p e h.0) end h.2 in
-    (h.0, h.1 (few_before (let z = next p e h.0 in z.lines) r.0 (subst HasFewBindings r.1 few)), few_along hd es (next p e h.0) end h.2 few)
+early_along hd [] p end h early = h
+early_along hd (e ∷ es) p end h early =
+    let r = along_more (EarlyStep hd) es (next p e h.0) end h.2 in (
+      h.0,
+      h.1 (early_before (let z = next p e h.0 in z.lines) r.0 (subst IsEarly r.1 early)),
+      early_along hd es (next p e h.0) end h.2 early,
+    )
 
 pub answers_are_caused : AnswersHaveCauses
 answers_are_caused hd r form =
-    let runs : Runs (FewStep hd) r.start (run_events hd r) (journal_by hd r) =
-    runs_along (FewStep hd) (Stands hd form.header r.start) IsStoppedInForm (λ p w s. let b = s.base in let f = b.base in f.lines)
+    let runs : Runs (EarlyStep hd) r.start (run_events hd r) (journal_by hd r) =
+    runs_along (EarlyStep hd) (Stands hd form.header r.start) IsStoppedInForm (λ p w s. let b = s.base in let f = b.base in f.lines)
     (λ p w s. let b = s.base in let f = b.base in f.count)
     (λ m p w stops s on. goes hd form.header r.start m p w stops s on) r.start r.moves (world_from hd r.start) form.stops
     (first_stands hd form.header r.start r.formed) in
     let end = runs.0 in (
       runs.0,
       runs.1,
-      few_along hd (run_events hd r) (at_start r.start) runs.0 runs.2
-          (few_before end.lines runs.1 (subst HasFewBindings runs.3 (moves_few hd r form.few))),
+      early_along hd (run_events hd r) (at_start r.start) runs.0 runs.2
+          (early_before end.lines runs.1 (subst IsEarly runs.3 (runs_early hd r form))),
       runs.3,
       runs.4,
     )

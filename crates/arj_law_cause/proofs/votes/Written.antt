@@ -17,7 +17,8 @@ use joint.{Joining.WithLocks, LightKeeps.WithLights, NextGiven.one_requests, Ord
 use Rattle.arj_law_serial.proofs.order
 use order.{Begun.begun_have_places, Codes.codes_are_apart, Seeing.agrees_at, Seeing.fixed_at}
 use Rattle.arj_model.specs.CausePends.{has_written}
-use Rattle.arj_law_cause.proofs.confirm.{Joined.IsEarly, Joined.beside, Labels.reached_world, Labels.world_of, Reached.IsOfWorld}
+use Rattle.arj_law_cause.specs.rows.Early.{IsEarly}
+use Rattle.arj_law_cause.proofs.confirm.{Joined.beside, Labels.reached_world, Labels.world_of, Reached.IsOfWorld}
 use Rattle.arj_law_cause.proofs.confirm.{Reached.Reached, Reached.sees_at, Reached.within_of, Reached.world_at}
 use Rattle.arj_law_cause.proofs.votes.{Surviving.merged_written, Voted.voted_called}
 

@@ -6,8 +6,8 @@ use Rattle.arj_class.specs.Table.{op_mode}
 use Rattle.arj_journal.specs.ScriptForm.{HeaderInForm}
 use Rattle.arj_model.specs.Actions.{Act, acts}
 use Rattle.arj_model.specs.CauseAnswers.{has_lock, meets}
-use Rattle.arj_model.specs.CausePends.{called_at, may_store, pends_step}
-use Rattle.arj_model.specs.CauseSpans.{holds_in}
+use Rattle.arj_model.specs.CausePends.{called_at, changes, may_store, pends_step}
+use Rattle.arj_model.specs.CauseSpans.{act_by, holds_in}
 use Rattle.arj_protocol.specs.Ask.{Reply, actor, top_of, top_path}
 use Rattle.arj_protocol.specs.Tree.{is_nested}
 use Rattle.arj_protocol.specs.Words.{Ask, Head, Header, Line, Mode, Uid, uids_of}
@@ -18,6 +18,7 @@ use Rattle.arj_protocol.specs.Words.loaded
 use Rattle.arj_protocol.specs.Words.mode
 use Rattle.arj_law_lock_view.specs.moments.Made.{Saying}
 use Rattle.arj_law_runs.specs.journal.Right.{has_act}
+use Rattle.arj_law_cause.specs.rows.Early.{IsEarly}
 
 -- the modes that a call, or an include, may ask for on an entry
 abbrev pub entry_modes : Bool → List Mode
@@ -38,14 +39,18 @@ may_pend n u on (line ∷ rest) = may_pend n u (pends_step true n u line.body on
 abbrev pub may_be_pending : ℕ → Uid → List Line → Bool
 may_be_pending n u lines = holds_in (λ m. may_pend n u false (drop m.at lines)) (called_at lines u)
 
--- so it may of a state of this object, of which the node may be a store
+-- the action changed the object: it has a surviving write or include of it
+abbrev pub has_changed : List Line → Uid → ℕ → Bool
+has_changed lines u x = holds_in (λ a. changes lines a.id x) (act_by lines u)
+
+-- so it may of a state of this object, which the action changed, and of which the node may be a store
 abbrev pub may_be_in_doubt : Header → ℕ → Uid → ℕ → List Line → Bool
-may_be_in_doubt header n u x lines = may_store header lines n x && may_be_pending n u lines
+may_be_in_doubt header n u x lines = has_changed lines u x && (may_store header lines n x && may_be_pending n u lines)
 
 -- A conflict: at a server the call, and at naming its top, meets the row of this holder in this mode, an action that began, at naming no
 -- nested one. Where a server answers with what the operation gives, the action has its lock; naming names a binding to no include; and
--- where it lets one go on, its top has the entry's write lock. Where a store is in doubt, a state of whom it names may be prepared there,
--- and it may be a store of the object, if the header is in form.
+-- where it lets one go on, its top has the entry's write lock. Where a store is in doubt, a state of whom it names may be prepared there;
+-- and if the header is in form, the node may be a store of the object, and if the journal is so too, that one changed it.
 abbrev pub says_of : Header → ℕ → Head → Ask → Reply → List Line → Type 0
 says_of hd n h (ask.Invoke x b i ends o) (Reply.Invoked (invoked.Conflict u m)) before =
     (meets n (uids_of h.path) (object x) (op_mode o) u m before ≡ true) × (has_act (acts before) u ≡ true)
@@ -60,6 +65,7 @@ says_of hd n h (ask.Bind x include avoid) (Reply.Bound (bound.Write g stores)) b
     has_lock 1 (top_of h.path) (entry x) mode.Write before ≡ true
 says_of hd n h (ask.Load x) (Reply.Loaded (loaded.InDoubt u)) before =
     (may_be_pending n u before ≡ true) × (HeaderInForm hd → may_store hd before n x ≡ true)
+    × (HeaderInForm hd → IsEarly before → has_changed before u x ≡ true)
 says_of hd n h a r before = ⊤
 
 -- so it is of an answer

@@ -1,0 +1,78 @@
+-- Of whom a store names as in doubt for an object, that one has changed it, by the journal.
+use Rattle.arj_law_parts.proofs.Words
+use Words.{◌≡◌, ◌∙◌, ℕ, true, refl, List, Option, Some, None, sym, ap, subst, find, In, in_find, uid_eq, uid_is, Header, Node, ObjectState}
+use Words.{Pair, Seen, Uid, actor, at_uid, holder_of, names_object, object, option_map}
+use Rattle.arj_journal.specs.ScriptForm.{HeaderInForm}
+use Rattle.arj_law_parts.proofs.Terms as objects
+use Rattle.arj_law_promise.proofs.Terms
+use Terms.{IsKept, in_at, keeps_asked, some_is}
+use Rattle.arj_law_promise.proofs.settling.{Joins.PreparedFrom, Rights.right_keep, Settled.sorted_as, Stills.IsRight}
+use Rattle.arj_law_promise.proofs.settling.{StockRuns.StocksAreKnown, StockRuns.stocks_keep}
+use Rattle.arj_law_runs.proofs.Terms.{Act, acts, new_book}
+use Rattle.arj_law_runs.proofs.journal.Models.{its_sound}
+use Rattle.arj_law_runs.specs.journal.Right.{AreRight}
+use Rattle.arj_model.specs.CausePends.{changes}
+use Rattle.arj_model.specs.CauseSpans.{holds_in}
+use Rattle.arj_law_cause.proofs.confirm.Reached.{Reached, reached_has}
+use Rattle.arj_law_cause.proofs.kinds.Committed.{act_found}
+use Rattle.arj_law_cause.proofs.rows.Holders.{one_passes}
+use Rattle.arj_law_cause.proofs.votes.Asks.{AskChanged, AsksAreChanged, ChangesEach, changed_keep}
+use Rattle.arj_law_cause.specs.rows.{Early.IsEarly, Says.has_changed}
+
+-- a list that names an object has a state of it
+named_state : (u : Uid) (ss : List ObjectState) → names_object u ss ≡ true → (st : ObjectState) × In st ss × (st.uid ≡ u)
+named_state u ss is =
+    let r = one_passes (λ (s : ObjectState). uid_eq s.uid u) ss is in (r.0, r.1, uid_is (let s = r.0 in s.uid) u r.2)
+
+-- whom a store names as in doubt has a state of the object prepared there
+holder_state : (x u : Uid) (d : Pair) → objects.AreSorted d.pend → holder_of x d ≡ Some u →
+    (ss : List ObjectState) × (at_uid u d.pend ≡ Some ss) × (names_object x ss ≡ true)
+holder_state x u d sorted is = by (find (λ (p : Uid × List ObjectState). names_object x p.1) d.pend) refl is
+  where
+    by : (o : Option (Uid × List ObjectState)) → find (λ (p : Uid × List ObjectState). names_object x p.1) d.pend ≡ o →
+        option_map (λ (p : Uid × List ObjectState). p.0) o ≡ Some u →
+        (ss : List ObjectState) × (at_uid u d.pend ≡ Some ss) × (names_object x ss ≡ true)
+    by None none e = absurd (cc e)
+    by (Some p) some e = let f = in_find (λ (q : Uid × List ObjectState). names_object x q.1) p d.pend some in
+        (p.1, subst (λ w. at_uid w d.pend ≡ Some p.1) (some_is e) (in_at p d.pend sorted f.0), f.1)
+
+-- what it was asked to prepare its top has changed
+pub doubt_changed : (hd : Header) (S : Seen) → Reached hd S → (n : ℕ) (a : Node) (x : ℕ) (u : Uid) → S.nodes n ≡ Some a →
+    holder_of (object x) (let d = a.disk in d.store) ≡ Some u → HeaderInForm hd → IsEarly S.lines → has_changed S.lines u x ≡ true
+doubt_changed hd S reached n a x u here held form early =
+    subst (λ o. holds_in (λ (b : Act). changes S.lines b.id x) o ≡ true)
+    (sym (act_found (acts S.lines) (let s = its_sound S.lines right in s.distinct) its.0 its.1 u (its.2 ∙ post.6)))
+    (subst (λ y. changes S.lines (let b = its.0 in b.id) y ≡ true) (ap (λ (w : Uid). w.num) st.2) (its.3 st.0 st.1))
+  where
+    rights : IsRight S
+    rights = reached_has hd IsRight (keeps_asked hd IsRight (right_keep hd)) S reached
+
+    right : AreRight new_book S.lines
+    right = let k : IsKept S = rights.0.0.0.0 in let w = k.1 in w.right
+
+    sorted : objects.AreSorted (let d = a.disk in let p = d.store in p.pend)
+    sorted =
+        let z = (let y = rights.0.0.1 in y.2.1) in
+        let m = z.nodes n a here in
+        let s = m.store in sorted_as (let d = a.disk in let p = d.store in p.pend) s.sorted
+
+    states : (ss : List ObjectState) × (at_uid u (let d = a.disk in let p = d.store in p.pend) ≡ Some ss)
+        × (names_object (object x) ss ≡ true)
+    states = holder_state (object x) u (let d = a.disk in d.store) sorted held
+
+    asked : (j : ℕ) × PreparedFrom j S.sent u n states.0
+    asked =
+        let stocked : StocksAreKnown hd S = reached_has hd (StocksAreKnown hd) (keeps_asked hd (StocksAreKnown hd)
+        (stocks_keep hd form)) S reached in
+        let s = stocked.1 in s.pend n a u states.0 here states.1
+
+    post : PreparedFrom asked.0 S.sent u n states.0
+    post = asked.1
+
+    st : (z : ObjectState) × In z states.0 × (z.uid ≡ object x)
+    st = named_state (object x) states.0 states.2
+
+    its : ChangesEach S.lines (actor (let h = post.4 in h.path)) states.0
+    its =
+        let known : Reached hd S × AsksAreChanged S = reached_has hd (λ M. Reached hd M × AsksAreChanged M) (changed_keep hd form) S reached in
+        (subst (AskChanged S.lines) post.5 (known.1 post.0 post.1)).1 early
