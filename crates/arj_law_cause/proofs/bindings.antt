@@ -16,3 +16,5 @@ pub mod Said
 pub mod Active
 pub mod Lowering
 pub mod Lowered
+pub mod Unrecorded
+pub mod Latest

@@ -10,4 +10,7 @@ pub mod Walked
 pub mod Rounds
 pub mod Known
 pub mod Asking
+pub mod Chain
+pub mod Commits
+pub mod Binds
 pub mod Alone

@@ -103,7 +103,7 @@ module _ (x : ℕ) (b : Binding) (s : ℕ) where
 pub few_low : (c m : ℕ) → c ≤ m → nat_lt m most_bindings ≡ true → c < 4294967296
 few_low c m low few = grind (arith, nat_tests, low, few)
 
-older_is : (b c : Binding) → b.count < 4294967296 → c.count < 4294967296 → binding_number b < binding_number c → is_older b c ≡ true
+pub older_is : (b c : Binding) → b.count < 4294967296 → c.count < 4294967296 → binding_number b < binding_number c → is_older b c ≡ true
 older_is b c small low less = by (nat_lt b.inc c.inc) refl
   where
     by : (t : Bool) → nat_lt b.inc c.inc ≡ t → (t || ((b.inc == c.inc) && nat_lt b.count c.count)) ≡ true

@@ -111,7 +111,7 @@ given_moved st ls ms same inc fewer_lines most g = record {
     at_most n low = omega (arith, low, most)
 
 -- a line that is no new binding
-no_bound : (ls : List Line) (e : ℕ) (c : Body) → bound_by c ≡ 0 → (x : ℕ) (b : Binding) (s : ℕ) →
+pub no_bound : (ls : List Line) (e : ℕ) (c : Body) → bound_by c ≡ 0 → (x : ℕ) (b : Binding) (s : ℕ) →
     IsLined (ls ++ numbered e (c ∷ [])) x b s →
     IsLined ls x b s
 no_bound ls e c is x b s h = by (lined_parts ls e c x b s h)
@@ -301,7 +301,7 @@ free_both (Say b ∷ es) still all =
 free_both (Send to m ∷ es) still all = free_both es still all
 free_both (Do w ∷ es) still all = free_both es still all
 
-light_unbound : (n : ℕ) (es : List Effect) → weigh n es ≤ 0 → saying.All is_unbound es
+pub light_unbound : (n : ℕ) (es : List Effect) → weigh n es ≤ 0 → saying.All is_unbound es
 light_unbound n [] less = refl
 light_unbound n (Say b ∷ es) less =
     let z = parts (bound_by b) (weigh n es) less in λ i. one b z.0 i && light_unbound n es z.1 i
@@ -375,10 +375,10 @@ module _ (k e : ℕ) (t : Parts) (st : Start) (fs : List Effect) (plain : ArePla
         by true is = ap turn_in (ap (λ z. at_number z (put_number x v n.objects)) (sym (same_key y x is)) ∙ put_same x v n.objects)
         by false is = ap turn_in (put_other x y v n.objects is)
 
-    light_due : (c : Counted) (r : Served Counted BoundReply) → c ≡ record { named = q; count = n.count } → IsLight c r →
+    light_due : (p : Path) (c : Counted) (r : Served Counted BoundReply) → c ≡ record { named = q; count = n.count } → IsLight x p c r →
         (ls : List Line) → IsGiven st ls → HasNames k t st ls →
         Due k (with_naming t (put_back (let v = r.part in v.named) (let v = r.part in v.count))) st e (r.outs ++ fs) ls
-    light_due c r same light ls g h =
+    light_due p c r same light ls g h =
         let v : Named = (let z = r.part in z.named) in
         let old = h n at in
         let turn : v.turn ≡ q.turn = light.turn ∙ ap (λ (z : Counted). (let o = z.named in o.turn)) same in
@@ -494,7 +494,7 @@ module _ (k e : ℕ) (t : Parts) (st : Start) (fs : List Effect) (plain : ArePla
           BindDue (on_counted x (bind_named n.inc x p include avoid (listed_entry x d)) n o)
       found None there = same_due n at
       found (Some q) there = ⊎_elim {C = BindDue (on_counted x (bind_named n.inc x p include avoid (listed_entry x d)) n (Some q))}
-          (λ light ls g h. light_due n at x q there (record { named = q; count = n.count })
+          (λ light ls g h. light_due n at x q there p (record { named = q; count = n.count })
           (bind_named n.inc x p include avoid (listed_entry x d) (record { named = q; count = n.count })) refl light ls g h)
           (λ same ls g h. subst (λ (r : Served Counted BoundReply).
           Due k (with_naming t (put_back n at x q there (let v = r.part in v.named) (let v = r.part in v.count))) st e (r.outs ++ fs) ls)
@@ -543,12 +543,12 @@ module _ (e k : ℕ) (d : Disk) (t v : Parts) (from : ℕ) (m : Message) (outs :
           let r = subst (StaysBy (lined_in st ls) k d t from) (sym (ap (handle_ask k d t from m) at) ∙ is)
           (message_stays (lined_in st ls) k d t from m o off) p vp in
           let old = names r.0 r.1 in
-          let alike = r.2 in record {
+          let alike = r.2.0 in record {
             first = old.first;
             inc = alike.inc ∙ old.inc;
             count = alike.count ∙ old.count;
             turns = λ x. alike.turns x ∙ old.turns x;
-            lined = r.3 old.lined;
+            lined = r.2.1 old.lined;
           }
 
   asked : (o : Option (Head × Ask)) → asks m ≡ o → Due k v st e outs ls

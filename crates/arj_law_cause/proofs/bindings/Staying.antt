@@ -189,17 +189,20 @@ abbrev pub is_bind : Option (Head × Ask) → Bool
 is_bind (Some (h, ask.Bind x include avoid)) = true
 is_bind _ = false
 
-module _ (N : OfServer) (k : ℕ) (d : Disk) (t : Parts) (from : ℕ) where
-  abbrev So : Naming → Type 0
-  So n = IsNamingSo N (λ x b s i. ⊤) n
+-- What such a message leaves of naming stands in a relation to what was, where each call of naming but a Bind keeps it.
+module _ (Rel : Naming → Naming → Type 0) (k : ℕ) (d : Disk) (t : Parts) (from : ℕ) (itself : (n : Naming) → Rel n n)
+    (notes : (p : Path) (x : ℕ) (b : Binding) (i g : ℕ) (n : Naming) → t.naming ≡ Some n → Rel n (note p x b i g n).part)
+    (confirming : (p : Path) (grants : Grants) (excluded included : Marks) (n : Naming) → t.naming ≡ Some n →
+    Rel n (confirm p grants excluded included d.names n).part)
+    (tells : (u : Uid) (e : End) (n : Naming) → t.naming ≡ Some n → Rel n (told u e d.names n).part)
+    (hellos : (node inc : ℕ) (n : Naming) → t.naming ≡ Some n → Rel n (naming.hello node inc n)) where
+  -- naming was there, and is as the relation says
+  abbrev Left : Option Naming → Type 0
+  Left after = (p : Naming) → after ≡ Some p → (o : Naming) × (t.naming ≡ Some o) × Rel o p
 
-  -- naming was there, and is as it was
-  abbrev Stayed : Option Naming → Type 0
-  Stayed after = (p : Naming) → after ≡ Some p → (o : Naming) × (t.naming ≡ Some o) × IsAlike o p × (So o → So p)
-
-  abbrev pub StaysBy : Handled → Type 0
-  StaysBy (Void outs) = ⊤
-  StaysBy (Took v outs) = Stayed v.naming
+  abbrev pub LeftBy : Handled → Type 0
+  LeftBy (Void outs) = ⊤
+  LeftBy (Took v outs) = Left v.naming
 
   none_is : {A : Type 0} {x : A} → None ≡ Some x → ⊥
   none_is {A} {x} is = let no_way : ◌≡◌ {A = Option A} None (Some x) = is in cc
@@ -207,81 +210,78 @@ module _ (N : OfServer) (k : ℕ) (d : Disk) (t : Parts) (from : ℕ) where
   some_is : {A : Type 0} {a b : A} → Some a ≡ Some b → a ≡ b
   some_is {A} {a} {b} is = let k : ◌≡◌ {A = Option A} (Some a) (Some b) = is in cc
 
-  as_it_is : Stayed t.naming
-  as_it_is p is = (p, is, alike_itself p, λ so. so)
+  as_it_is : Left t.naming
+  as_it_is p is = (p, is, itself p)
 
-  answered : (h : Head) (v : Parts) (outs : List Effect) (o : Option Reply) → Stayed v.naming → StaysBy (sends_answer from h v outs o)
+  answered : (h : Head) (v : Parts) (outs : List Effect) (o : Option Reply) → Left v.naming → LeftBy (sends_answer from h v outs o)
   answered h v outs None f = tt
   answered h v outs (Some r) f = f
 
-  with_it : (f : Naming → Handled) (o : Option Naming) → t.naming ≡ o → ((n : Naming) → t.naming ≡ Some n → StaysBy (f n)) →
-      StaysBy (if_naming f o)
+  with_it : (f : Naming → Handled) (o : Option Naming) → t.naming ≡ o → ((n : Naming) → t.naming ≡ Some n → LeftBy (f n)) →
+      LeftBy (if_naming f o)
   with_it f None is each = tt
   with_it f (Some n) is each = each n is
 
-  gone : (n m : Naming) → t.naming ≡ Some n → IsAlike n m → (So n → So m) → Stayed (Some m)
-  gone n m at a so p is = (n, at, subst (IsAlike n) (some_is is) a, λ s. subst So (some_is is) (so s))
+  gone : (n m : Naming) → t.naming ≡ Some n → Rel n m → Left (Some m)
+  gone n m at a p is = (n, at, subst (Rel n) (some_is is) a)
 
-  asked : (h : Head) (a : Ask) → is_bind (Some (h, a)) ≡ false → StaysBy (serve k d t from h a)
+  asked : (h : Head) (a : Ask) → is_bind (Some (h, a)) ≡ false → LeftBy (serve k d t from h a)
   asked h (ask.Bind x include avoid) off = absurd (cc off)
   asked h (ask.Load x) off = load (holder_of (object x) d.store)
     where
-      held : (s : Option ObjectState) → StaysBy (load_held from h t s)
+      held : (s : Option ObjectState) → LeftBy (load_held from h t s)
       held None = tt
       held (Some s) = answered h t (Do Look ∷ []) (Some (Reply.Loaded (loaded.State s))) as_it_is
 
-      load : (o : Option Uid) → StaysBy (load_by x d.store from h t o)
+      load : (o : Option Uid) → LeftBy (load_by x d.store from h t o)
       load (Some u) = answered h t [] (Some (Reply.Loaded (loaded.InDoubt u))) as_it_is
       load None = held (held_at (object x) d.store)
   asked h (ask.Activate b st) off = let r = server.activate k h.path b st t.server in
       answered h (with_server t r.part) r.outs (option_map Reply.Activated r.reply) as_it_is
   asked h (ask.Record x b i g) off = with_it _ t.naming refl (λ n at. let r = naming.note h.path x b i g n in
       answered h (with_naming t r.part) r.outs (option_map Reply.Noted r.reply)
-      (gone n r.part at (note_alike h.path x b i g n) (note_so N (λ x b s i. ⊤) h.path x b i g n (λ m its same. tt))))
+      (gone n r.part at (notes h.path x b i g n at)))
   asked h (ask.Invoke x b i ends o) off = let r = server.invoke k h x b i ends o t.server in
       answered h (with_server t r.part) r.outs (option_map Reply.Invoked r.reply) as_it_is
   asked h (ask.Vote i ties ends) off = let r = server.vote k h.path i ties ends t.server in
       answered h (with_server t r.part) r.outs (option_map Reply.Voted r.reply) as_it_is
   asked h (ask.Prepare states) off = twice (is_prepared (actor h.path) d.store)
     where
-      new : (a : Prep) → StaysBy (prepare_by k states from h t a)
+      new : (a : Prep) → LeftBy (prepare_by k states from h t a)
       new Ready = as_it_is
       new (Already u) = tt
       new (Old u w) = as_it_is
       new (InDoubt u holder) = as_it_is
 
-      twice : (b : Bool) → StaysBy (cond b (sends_answer from h t [] (Some (Reply.Prepared prepared.Yes)))
+      twice : (b : Bool) → LeftBy (cond b (sends_answer from h t [] (Some (Reply.Prepared prepared.Yes)))
           (prepare_by k states from h t (prepare_answer (actor h.path) states d.store)))
       twice true = as_it_is
       twice false = new (prepare_answer (actor h.path) states d.store)
   asked h (ask.Confirm grants excluded included) off = with_it _ t.naming refl (λ n at.
       let r = confirm h.path grants excluded included d.names n in
       answered h (with_naming t r.part) r.outs (option_map Reply.Confirmed r.reply)
-      (gone n r.part at (confirm_alike h.path grants excluded included d.names n)
-      (confirm_so N (λ x b s i. ⊤) h.path grants excluded included d.names n)))
+      (gone n r.part at (confirming h.path grants excluded included n at)))
 
-  coord_left : (r : Served Coord (Unit {0})) → StaysBy (coord_heard t r)
+  coord_left : (r : Served Coord (Unit {0})) → LeftBy (coord_heard t r)
   coord_left r = by r.reply
     where
-      by : (o : Option (Unit {0})) → StaysBy (by_reply (with_coord t r.part) r.outs o)
+      by : (o : Option (Unit {0})) → LeftBy (by_reply (with_coord t r.part) r.outs o)
       by None = tt
       by (Some u) = as_it_is
 
-  ends_left : (ack : Bool) (ends : List (Uid × End)) (o : Option (Uid × End)) → StaysBy (handle_ends k d t from ack ends o)
+  ends_left : (ack : Bool) (ends : List (Uid × End)) (o : Option (Uid × End)) → LeftBy (handle_ends k d t from ack ends o)
   ends_left ack ends None = as_it_is
   ends_left ack ends (Some e) = named t.naming refl
     where
-      named : (o : Option Naming) → t.naming ≡ o → Stayed (naming_told e.0 e.1 d.names o).part
+      named : (o : Option Naming) → t.naming ≡ o → Left (naming_told e.0 e.1 d.names o).part
       named None at p is = absurd (none_is is)
-      named (Some n) at p is = gone n (naming.told e.0 e.1 d.names n).part at (told_alike e.0 e.1 d.names n)
-          (told_so N (λ x b s i. ⊤) e.0 e.1 d.names n) p is
+      named (Some n) at p is = gone n (naming.told e.0 e.1 d.names n).part at (tells e.0 e.1 n at) p is
 
-  helloed : (node inc : ℕ) (o : Option Naming) → t.naming ≡ o → Stayed (naming_hello node inc o)
+  helloed : (node inc : ℕ) (o : Option Naming) → t.naming ≡ o → Left (naming_hello node inc o)
   helloed node inc None at p is = absurd (none_is is)
-  helloed node inc (Some n) at p is = gone n (naming.hello node inc n) at (hello_alike node inc n) (hello_so N (λ x b s i. ⊤) node inc n)
-      p is
+  helloed node inc (Some n) at p is = gone n (naming.hello node inc n) at (hellos node inc n at) p is
 
-  other : (n : Message) → StaysBy (handle_other k d t from n)
+  other : (n : Message) → LeftBy (handle_other k d t from n)
   other (message.Told n) = ends_left n.ack n.ends (last_end n.ends)
   other (message.Acked n) = coord_left (acked from n.act d.intents t.coord)
   other (message.Query n) = as_it_is
@@ -303,10 +303,41 @@ module _ (N : OfServer) (k : ℕ) (d : Disk) (t : Parts) (from : ℕ) where
   other (message.Confirm n) = tt
   other (message.Confirmed n) = tt
 
-  pub message_stays : (m : Message) (o : Option (Head × Ask)) → is_bind o ≡ false → StaysBy (handle_ask k d t from m o)
-  message_stays m None off = answer (answers m)
+  pub message_leaves : (m : Message) (o : Option (Head × Ask)) → is_bind o ≡ false → LeftBy (handle_ask k d t from m o)
+  message_leaves m None off = answer (answers m)
     where
-      answer : (o : Option (Asked × Reply)) → StaysBy (handle_answer k d t from m o)
+      answer : (o : Option (Asked × Reply)) → LeftBy (handle_answer k d t from m o)
       answer None = other m
       answer (Some a) = coord_left (heard from a.0 a.1 d.intents t.coord)
-  message_stays m (Some a) off = asked a.0 a.1 off
+  message_leaves m (Some a) off = asked a.0 a.1 off
+
+-- naming is in the same incarnation, with the same count and turns, and of its bindings is known what was
+module _ (N : OfServer) (k : ℕ) (d : Disk) (t : Parts) (from : ℕ) where
+  abbrev pub So : Naming → Type 0
+  So n = IsNamingSo N (λ x b s i. ⊤) n
+
+  abbrev pub Stays : Naming → Naming → Type 0
+  Stays o p = IsAlike o p × (So o → So p)
+
+  pub stays_itself : (n : Naming) → Stays n n
+  stays_itself n = (alike_itself n, λ so. so)
+
+  pub note_stays : (p : Path) (x : ℕ) (b : Binding) (i g : ℕ) (n : Naming) → t.naming ≡ Some n → Stays n (note p x b i g n).part
+  note_stays p x b i g n at = (note_alike p x b i g n, note_so N (λ x b s i. ⊤) p x b i g n (λ m its same. tt))
+
+  pub confirm_stays : (p : Path) (grants : Grants) (excluded included : Marks) (n : Naming) → t.naming ≡ Some n →
+      Stays n (confirm p grants excluded included d.names n).part
+  confirm_stays p grants excluded included n at =
+      (confirm_alike p grants excluded included d.names n, confirm_so N (λ x b s i. ⊤) p grants excluded included d.names n)
+
+  pub told_stays : (u : Uid) (e : End) (n : Naming) → t.naming ≡ Some n → Stays n (told u e d.names n).part
+  told_stays u e n at = (told_alike u e d.names n, told_so N (λ x b s i. ⊤) u e d.names n)
+
+  pub hello_stays : (node inc : ℕ) (n : Naming) → t.naming ≡ Some n → Stays n (naming.hello node inc n)
+  hello_stays node inc n at = (hello_alike node inc n, hello_so N (λ x b s i. ⊤) node inc n)
+
+  abbrev pub StaysBy : Handled → Type 0
+  StaysBy h = LeftBy Stays k d t from stays_itself note_stays confirm_stays told_stays hello_stays h
+
+  pub message_stays : (m : Message) (o : Option (Head × Ask)) → is_bind o ≡ false → StaysBy (handle_ask k d t from m o)
+  message_stays = message_leaves Stays k d t from stays_itself note_stays confirm_stays told_stays hello_stays

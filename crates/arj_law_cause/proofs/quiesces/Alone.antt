@@ -37,55 +37,36 @@ use Rattle.arj_law_runs.proofs.journal.Models.{its_sound}
 use Rattle.arj_model.specs.Actions.{Begun, acts_after, acts_from, begun_of, numbered as numbered_acts}
 use Rattle.arj_model.specs.Past.{Past, block, next}
 use Rattle.arj_model.specs.Refusals.{is_waiting, waits_for}
-use Rattle.arj_law_cause.proofs.quiesces.Answered.{Kept, overtaken_so_far}
+use Rattle.arj_law_parts.proofs.moves.Happens.{keeps_asked}
+use Rattle.arj_law_runs.proofs.calls.WholeRuns.{few_before}
+use Rattle.arj_law_runs.specs.calls.Bindings.{HasFewBindings}
+use Rattle.arj_law_cause.proofs.bindings.Latest.{KnowsLatest, latest_keep}
+use Rattle.arj_law_cause.proofs.quiesces.Answered.{Kept}
+use Rattle.arj_law_cause.proofs.quiesces.Binds.{NoneOver, call_over, commits_over, include_over}
 use Rattle.arj_law_cause.proofs.quiesces.Ties as ties
 use Rattle.arj_law_cause.proofs.quiesces.Walked as walked
 use Rattle.arj_law_cause.specs.rounds.Alone.{AloneStep, RunsAnswerAlone, asking}
-use Rattle.arj_law_cause.specs.rounds.Quiesces.{is_overtaken}
 use Rattle.arj_law_cause.specs.waits.waiting.Waits.{IsAt, IsAtWork}
 use Rattle.arj_law_runs.proofs.Terms.{Walks, Up}
 use Rattle.arj_law_runs.proofs.resting
-use resting.{Hearing.Moves}
-use resting.{Worlds.Of, Worlds.said_more}
-use Rattle.arj_law_cause.proofs.quiesces.Asking.{Acts, P, called, calls_left, commits_left, committed, here, included, keeps}
+use resting.{Hearing.IsHome, Hearing.Moves}
+use resting.{Worlds.Of}
+use Rattle.arj_law_cause.proofs.quiesces.Asking.{Acts, P, called, calls_left, commits_left, committed, here, homes, included, keeps}
 
 -- ---- what an event leaves at a node
 
--- what is said is a line
-said_in : (n k : ℕ) (outs : List Effect) (b : Body) → members.In (Say b) outs → members.In b (bodies n k outs)
-said_in n k [] b i = absurd i
-said_in n k (Say x ∷ es) b (inl is) = let same : x ≡ b = cc is in inl same
-said_in n k (Say x ∷ es) b (inr i) = inr (said_in n k es b i)
-said_in n k (Do w ∷ es) b (inl is) = absurd (cc is)
-said_in n k (Do w ∷ es) b (inr i) = said_in n k es b i
-said_in n k (Send to m ∷ es) b (inl is) = absurd (cc is)
-said_in n k (Send to m ∷ es) b (inr i) = in_right b (sent_line (k + 1) n to (frame_kind m)) (bodies n (k + 1) es) (said_in n (k + 1) es b i)
-
-numbered_in : (e : ℕ) (bs : List Body) (b : Body) → members.In b bs → members.In (record { event = e; body = b }) (numbered e bs)
-numbered_in e [] b i = absurd i
-numbered_in e (c ∷ bs) b (inl is) = inl (ap (λ (x : Body). record { event = e; body = x }) is)
-numbered_in e (c ∷ bs) b (inr i) = inr (numbered_in e bs b i)
-
-new_said : (old : List Line) (e : ℕ) (bs : List Body) (b : Body) → members.In b bs → IsSaid (old ++ numbered e bs) b
-new_said old e bs b i = (
-  record { event = e; body = b },
-  in_to (record { event = e; body = b }) (old ++ numbered e bs) (in_right (record { event = e; body = b }) old (numbered e bs) (numbered_in e bs b i)),
-  refl,
-)
-
--- a node that did a step, and what it said
-record HasStepped (n : ℕ) (i : Input) (w : World) (lines : List Line) (k : ℕ) (x : Node) : Type 0 where
+-- a node that did a step
+record HasStepped (n : ℕ) (i : Input) (w : World) (k : ℕ) (x : Node) : Type 0 where
   pub node : Node
   pub same : k ≡ n
   pub there : at_place n w.nodes ≡ Some node
   pub is : x ≡ (step w.header node i).after
-  pub said : lines ≡ w.lines ++ numbered w.event (bodies n (length w.frames) (step w.header node i).outs)
 
 -- where a node takes this input the node behind it is as it was, or down, or has done a step
-abbrev IsLeft : ℕ → Input → World → List Line → ℕ → Node → Type 0
-IsLeft n i w lines k x = (at_place k w.nodes ≡ Some x) ⊎ ((x.live ≡ None) ⊎ HasStepped n i w lines k x)
+abbrev IsLeft : ℕ → Input → World → ℕ → Node → Type 0
+IsLeft n i w k x = (at_place k w.nodes ≡ Some x) ⊎ ((x.live ≡ None) ⊎ HasStepped n i w k x)
 
-steps_left : (n : ℕ) (i : Input) (w : World) (k : ℕ) (x : Node) → at_place k (steps n i w).nodes ≡ Some x → IsLeft n i w (steps n i w).lines k x
+steps_left : (n : ℕ) (i : Input) (w : World) (k : ℕ) (x : Node) → at_place k (steps n i w).nodes ≡ Some x → IsLeft n i w k x
 steps_left n i w k x = by (at_place n w.nodes) refl
   where
     some_node : (y z : Node) → Some y ≡ Some z → y ≡ z
@@ -107,32 +88,29 @@ steps_left n i w k x = by (at_place n w.nodes) refl
         one false off = inr (sym (place_other n k y w.nodes (apart off)) ∙ at)
 
     done : (a : Node) → at_place n w.nodes ≡ Some a → at_place k (set_place n (step w.header a i).after w.nodes) ≡ Some x →
-        IsLeft n i w (w.lines ++ numbered w.event (bodies n (length w.frames) (step w.header a i).outs)) k x
-    done a there at = ⊎_elim (λ p. inr (inr (record { node = a; same = p.0; there = there; is = sym p.1; said = refl }))) (λ o. inl o)
+        IsLeft n i w k x
+    done a there at = ⊎_elim (λ p. inr (inr (record { node = a; same = p.0; there = there; is = sym p.1 }))) (λ o. inl o)
         (placed a (step w.header a i).after there at)
 
-    down : (ls : List Line) (a y : Node) → at_place n w.nodes ≡ Some a → y.live ≡ None → at_place k (set_place n y w.nodes) ≡ Some x →
-        IsLeft n i w ls k x
-    down ls a y there is at = ⊎_elim (λ p. inr (inl (ap (λ (z : Node). z.live) (sym p.1) ∙ is))) (λ o. inl o) (placed a y there at)
+    down : (a y : Node) → at_place n w.nodes ≡ Some a → y.live ≡ None → at_place k (set_place n y w.nodes) ≡ Some x →
+        IsLeft n i w k x
+    down a y there is at = ⊎_elim (λ p. inr (inl (ap (λ (z : Node). z.live) (sym p.1) ∙ is))) (λ o. inl o) (placed a y there at)
 
     with_arm : (a : Node) → at_place n w.nodes ≡ Some a → (o : Option Arm) → at_place k (step_with n a (step w.header a i) w o).nodes ≡ Some x →
-        IsLeft n i w (step_with n a (step w.header a i) w o).lines k x
+        IsLeft n i w k x
     with_arm a there None at = done a there at
     with_arm a there (Some arm) at = one (nat_lt (count_works (step w.header a i).halting) arm.works) at
       where
         one : (b : Bool) → at_place k (cond b (done_step n (step w.header a i)
             (armed n (record arm { works = arm.works - count_works (step w.header a i).halting }) w))
-            (halted_at n a (cut (arm.works - 1) arm.how (step w.header a i).halting a.disk) (disarmed n w))).nodes ≡ Some x →
-            IsLeft n i w (cond b (done_step n (step w.header a i)
-            (armed n (record arm { works = arm.works - count_works (step w.header a i).halting }) w))
-            (halted_at n a (cut (arm.works - 1) arm.how (step w.header a i).halting a.disk) (disarmed n w))).lines k x
+            (halted_at n a (cut (arm.works - 1) arm.how (step w.header a i).halting a.disk) (disarmed n w))).nodes ≡ Some x → IsLeft n i w k x
         one true at = done a there at
-        one false at = down _ a (record a {
+        one false at = down a (record a {
           disk = (let c = cut (arm.works - 1) arm.how (step w.header a i).halting a.disk in c.disk);
           live = None;
         }) there refl at
 
-    by : (o : Option Node) → at_place n w.nodes ≡ o → at_place k (step_node n i w o).nodes ≡ Some x → IsLeft n i w (step_node n i w o).lines k x
+    by : (o : Option Node) → at_place n w.nodes ≡ o → at_place k (step_node n i w o).nodes ≡ Some x → IsLeft n i w k x
     by None none at = inl at
     by (Some a) there at = with_arm a there (at_number n w.arms) at
 
@@ -147,7 +125,7 @@ some_left M good k n t found live u q m does now none =
     let no_way : true ≡ false = ap is_empty (sym none) ∙ w.1.1 in cc no_way
 
 module _ (hd : Header) (form : HeaderInForm hd) (front : Run hd) (m : Move) (p : Past) (s : Kept hd form p (world_by hd front))
-    (on : (let x = world_by hd front in x.over) ≡ false) (alone : hd.nodes ≡ 1) where
+    (on : (let x = world_by hd front in x.over) ≡ false) (few : HasFewBindings (world_by hd front).lines) (alone : hd.nodes ≡ 1) where
   abbrev w : World
   w = world_by hd front
 
@@ -219,9 +197,18 @@ module _ (hd : Header) (form : HeaderInForm hd) (front : Run hd) (m : Move) (p :
   WaitedAt a = (k : ℕ) × (n : Node) × (z : Parts) × (d : Doing) × (at_place k (world_by hd front).nodes ≡ Some n) × (n.live ≡ Some z)
       × (doing_of a z.coord ≡ Some d) × (is_waiting_now d.now ≡ true)
 
-  -- it waits in a call that is overtaken
-  abbrev pub IsOver : Doing → Type 0
-  IsOver d = (c : Steps) × (d.now ≡ Calling c) × IsOvertaken (IsSaid (moved m (world_by hd front)).lines) c
+  -- what is known of naming's bindings
+  pub latest : Holds hd KnowsLatest (world_by hd front)
+  latest = moves_asked hd KnowsLatest (keeps_asked hd KnowsLatest (latest_keep hd)) front
+
+  home_at : (n : ℕ) (b : Node) (y : Parts) → at_place n (world_by hd front).nodes ≡ Some b → b.live ≡ Some y → IsHome y.coord
+  home_at n b y there live = homes hd form n b.disk y (see held.sent (world_by hd front)) (here hd form w held n b y there live)
+
+  -- whoever is overtaken behind the step that an input makes of a node waited before
+  abbrev pub NoneOvertaken : Input → ℕ → Node → Parts → Type 0
+  NoneOvertaken i n b y = (there : at_place n (world_by hd front).nodes ≡ Some b) (live : b.live ≡ Some y) (home : IsHome y.coord) →
+      NoneOver hd (world_by hd front) latest few n b y there live home (whole n (with_coord y (acts i (let d = b.disk in d.intents) y.coord).part)
+      (acts i (let d = b.disk in d.intents) y.coord).outs b.disk)
 
   -- ---- an input that asks something of the action with this label
 
@@ -232,14 +219,14 @@ module _ (hd : Header) (form : HeaderInForm hd) (front : Run hd) (m : Move) (p :
       (asks_it : first_reason (reasons (event_of m) (record (world_by hd front) { arms = m.falls })) ≡ None → AsksNode hd i)
       (branch : (c : Coord) → refusal_up hd i c ≡ None → (br : Branch) × (branch_named l c ≡ Some br))
       (acts_so : (c : Coord) (intents : List (Uid × Intent)) (br : Branch) (b : Doing) → branch_named l c ≡ Some br →
-      Acts (actor br.path) b c (acts i intents c)) where
+      Acts (actor br.path) b c (acts i intents c))
+      (none_so : (b : Node) (y : Parts) (br : Branch) → branch_named l y.coord ≡ Some br → AsksNode hd i → refusal_up hd i y.coord ≡ None → n ≡ 1 →
+      NoneOvertaken i n b y) where
     -- what the event leaves at a place
     abbrev Behind : ℕ → Node → Type 0
     Behind k x = (at_place k (world_by hd front).nodes ≡ Some x) ⊎ ((x.live ≡ None)
-        ⊎ ((first_reason (reasons (event_of m) (record (world_by hd front) { arms = m.falls })) ≡ None) × (more : List Line)
-        × HasStepped n i (counted (record (world_by hd front) { arms = m.falls }))
-        (steps n i (counted (record (world_by hd front) { arms = m.falls }))).lines k x
-        × ((moved m (world_by hd front)).lines ≡ (steps n i (counted (record (world_by hd front) { arms = m.falls }))).lines ++ more)))
+        ⊎ ((first_reason (reasons (event_of m) (record (world_by hd front) { arms = m.falls })) ≡ None)
+        × HasStepped n i (counted (record (world_by hd front) { arms = m.falls })) k x))
 
     behind_it : (k : ℕ) (x : Node) → at_place k (moved m (world_by hd front)).nodes ≡ Some x → Behind k x
     behind_it k x at = by (first_reason (reasons (event_of m) u)) refl
@@ -254,20 +241,15 @@ module _ (hd : Header) (form : HeaderInForm hd) (front : Run hd) (m : Move) (p :
         run : first_reason (reasons (event_of m) u) ≡ None → v ≡ record (limited (happens (event_of m) arm t)) { arms = [] } → Behind k x
         run none is = full (happens (event_of m) arm t).full refl
           where
-            stepped : (more : List Line) → v.nodes ≡ (happens (event_of m) arm t).nodes → v.lines ≡ (happens (event_of m) arm t).lines ++ more →
-                Behind k x
-            stepped more nodes lines = ⊎_elim (λ o. inl o) (⊎_elim (λ d. inr (inl d))
-                (λ h. inr (inr (none, more, h, lines ∙ ap (λ (z : World). z.lines ++ more) does_it))))
+            stepped : v.nodes ≡ (happens (event_of m) arm t).nodes → Behind k x
+            stepped nodes = ⊎_elim (λ o. inl o) (⊎_elim (λ d. inr (inl d)) (λ h. inr (inr (none, h))))
                 (steps_left n i t k x (ap (at_place k) (sym (nodes ∙ ap (λ (z : World). z.nodes) does_it)) ∙ at))
 
             full : (b : Bool) → (happens (event_of m) arm t).full ≡ b → Behind k x
-            full true met = let now = is ∙ (λ j. record (cond (met j) (world_says (body.Limit which.Frames ∷ [])
-                (record (happens (event_of m) arm t) { over = true })) (happens (event_of m) arm t)) { arms = [] }) in
-                stepped _ (ap (λ (z : World). z.nodes) now) (ap (λ (z : World). z.lines) now)
-            full false fits = let now = is ∙ (λ j. record (cond (fits j) (world_says (body.Limit which.Frames ∷ [])
-                (record (happens (event_of m) arm t) { over = true })) (happens (event_of m) arm t)) { arms = [] }) in
-                stepped [] (ap (λ (z : World). z.nodes) now)
-                (ap (λ (z : World). z.lines) now ∙ sym (append-nil (happens (event_of m) arm t).lines))
+            full true met = stepped (ap (λ (z : World). z.nodes) (is ∙ (λ j. record (cond (met j) (world_says (body.Limit which.Frames ∷ [])
+                (record (happens (event_of m) arm t) { over = true })) (happens (event_of m) arm t)) { arms = [] })))
+            full false fits = stepped (ap (λ (z : World). z.nodes) (is ∙ (λ j. record (cond (fits j) (world_says (body.Limit which.Frames ∷ [])
+                (record (happens (event_of m) arm t) { over = true })) (happens (event_of m) arm t)) { arms = [] })))
 
         labels : first_reason (reasons (event_of m) u) ≡ None → (b : Bool) → lacks_labels (giving (event_of m) u) u ≡ b → Behind k x
         labels none true lacks = old (no_labels u) (now_is (no_labels u) (ap (run_unless (event_of m) arm u) none
@@ -284,7 +266,7 @@ module _ (hd : Header) (form : HeaderInForm hd) (front : Run hd) (m : Move) (p :
     module _ (k : ℕ) (x : Node) (z : Parts) (at : at_place k (moved m (world_by hd front)).nodes ≡ Some x) (live : x.live ≡ Some z) (a : Uid) (d : Doing)
         (does : doing_of a z.coord ≡ Some d) (waits : is_waiting_now d.now ≡ true) where
       abbrev Found : Type 0
-      Found = WaitedAt a ⊎ IsOver d
+      Found = WaitedAt a
 
       as_before : (n : Node) → at_place k w.nodes ≡ Some n → n.live ≡ Some z → WaitedAt a
       as_before n there is = (k, n, z, d, there, is, does, waits)
@@ -292,9 +274,8 @@ module _ (hd : Header) (form : HeaderInForm hd) (front : Run hd) (m : Move) (p :
       -- a step of the coordinator
       asked_here : (b : Node) (y : Parts) → k ≡ n → at_place n w.nodes ≡ Some b → b.live ≡ Some y → refusal_up hd i y.coord ≡ None →
           first_reason (reasons (event_of m) u) ≡ None → (q : Ran) → q ≡ whole n (with_coord y (acts i (let e = b.disk in e.intents) y.coord).part)
-          (acts i (let e = b.disk in e.intents) y.coord).outs b.disk → z ≡ (let h = q.here in h.parts) →
-          ((c : Body) → members.In (Say c) q.outs → IsSaid v.lines c) → ((c : Body) → IsSaid w.lines c → IsSaid v.lines c) → Found
-      asked_here b y same there up_it free none q is z_is new old = by d.now refl
+          (acts i (let e = b.disk in e.intents) y.coord).outs b.disk → z ≡ (let h = q.here in h.parts) → Found
+      asked_here b y same there up_it free none q is z_is = by d.now refl
         where
           did : Did Coord
           did = acts i (let e = b.disk in e.intents) y.coord
@@ -344,60 +325,43 @@ module _ (hd : Header) (form : HeaderInForm hd) (front : Run hd) (m : Move) (p :
           back : (f : Doing) × (doing_of a y.coord ≡ Some f) × (is_waiting_now f.now ≡ true) → WaitedAt a
           back f = (n, b, y, f.0, there, up_it, f.1, f.2)
 
-          over : (c : Steps) → IsOvertaken (λ g. IsSaid w.lines g ⊎ members.In (Say g) (whole n (with_coord y did.part) did.outs b.disk).outs) c →
-              IsOvertaken (IsSaid v.lines) c
-          over c o = record {
-            known = o.known;
-            step = o.step;
-            binding = o.binding;
-            server = o.server;
-            line = ⊎_elim (λ g. old _ g) (λ g. new _ (subst (λ (r : Ran). members.In (Say (body.Bound c.x o.binding o.server)) r.outs) (sym is) g)) o.line;
-            greater = o.greater;
-          }
+          first_node : n ≡ 1
+          first_node = one_node n (place_of n b there)
+
+          over : (c : Steps) → d.now ≡ Calling c →
+              IsOvertaken (λ g. IsSaid w.lines g ⊎ members.In (Say g) (whole n (with_coord y did.part) did.outs b.disk).outs) c → WaitedAt a
+          over c now o = back (none_so b y br.0 br.1 (asks_it none) free first_node there up_it (home_at n b y there up_it) a d c its_does now o)
 
           by : (g : Now) → d.now ≡ g → Found
           by Idle now = let no_way : false ≡ true = ap is_waiting_now (sym now) ∙ waits in absurd (cc no_way)
-          by (Calling c) now = ⊎_elim (λ o. inr (c, now, over c o)) (λ f. inl (back f))
+          by (Calling c) now = ⊎_elim (over c now) back
               (calls_left hd form w held n b y there up_it did (actor br.0.path) doing.0 does_so moves w.event walks only (place_of n b there)
               a d c its_does now (next_of k x z a d c at live does now))
           by (Committing c) now =
               let j = left_at k x z a d c at live does now in
-              inl (back (commits_left hd form w held n b y there up_it did (actor br.0.path) doing.0 does_so moves w.event walks only (place_of n b there)
-              a d c j.0 its_does now j.1 j.2))
+              back (commits_left hd form w held n b y there up_it did (actor br.0.path) doing.0 does_so moves w.event walks only (place_of n b there)
+              a d c j.0 its_does now j.1 j.2)
 
       -- the node's step
-      stepped : HasStepped n i (counted (record (world_by hd front) { arms = m.falls }))
-          (steps n i (counted (record (world_by hd front) { arms = m.falls }))).lines k x →
-          first_reason (reasons (event_of m) (record (world_by hd front) { arms = m.falls })) ≡ None → (more : List Line) →
-          (moved m (world_by hd front)).lines ≡ (steps n i (counted (record (world_by hd front) { arms = m.falls }))).lines ++ more → Found
-      stepped h none more lines = by (refusal w.header i h.node) refl h.is h.said
+      stepped : HasStepped n i (counted (record (world_by hd front) { arms = m.falls })) k x →
+          first_reason (reasons (event_of m) (record (world_by hd front) { arms = m.falls })) ≡ None → Found
+      stepped h none = by (refusal w.header i h.node) refl h.is
         where
           stays : x ≡ h.node → Found
-          stays is = inl (as_before x (ap (λ j. at_place j w.nodes) h.same ∙ h.there ∙ ap Some (sym is)) live)
+          stays is = as_before x (ap (λ j. at_place j w.nodes) h.same ∙ h.there ∙ ap Some (sym is)) live
 
           header : w.header ≡ hd
           header = (let g = ties.told hd form p w s.all in g.is)
 
-          old : (c : Body) → IsSaid w.lines c → IsSaid v.lines c
-          old c said = subst (λ ls. IsSaid ls c) (sym lines) (said_more (steps n i t).lines more c
-              (subst (λ ls. IsSaid ls c) (sym h.said) (said_more w.lines _ c said)))
-
           some_parts : (e y : Parts) → Some e ≡ Some y → e ≡ y
           some_parts e y is = cc is
 
-          up_one : (y : Parts) → (let b = h.node in b.live) ≡ Some y → refusal_up w.header i y.coord ≡ None → x ≡ (step_up i h.node y).after →
-              (steps n i t).lines ≡ t.lines ++ numbered t.event (bodies n (length t.frames) (step_up i h.node y).outs) → Found
-          up_one y up_it free is said =
+          up_one : (y : Parts) → (let b = h.node in b.live) ≡ Some y → refusal_up w.header i y.coord ≡ None → x ≡ (step_up i h.node y).after → Found
+          up_one y up_it free is =
               asked_here h.node y h.same h.there up_it (subst (λ g. refusal_up g i y.coord ≡ None) header free) none
               (whole n (with_coord y did.part) did.outs b.disk) refl
               (some_parts z (let h = q.here in h.parts) (sym live ∙ ap (λ (e : Node). e.live) (is ∙ ap (λ (e : Step). e.after) (up_is b y))
               ∙ (λ j. Some (let f = whole (number j) (with_coord y did.part) did.outs b.disk in let g = f.here in g.parts))))
-              (λ c j. subst (λ ls. IsSaid ls c) (sym lines) (said_more (steps n i t).lines more c
-              (subst (λ ls. IsSaid ls c) (sym said) (new_said t.lines t.event (bodies n (length t.frames) (step_up i b y).outs) c
-              (said_in n (length t.frames) (step_up i b y).outs c
-              (subst (λ (e : Step). members.In (Say c) e.outs) (sym (up_is b y))
-              (subst (λ k. members.In (Say c) (whole k (with_coord y did.part) did.outs b.disk).outs) (sym number) j)))))))
-              old
             where
               b : Node
               b = h.node
@@ -411,18 +375,16 @@ module _ (hd : Header) (form : HeaderInForm hd) (front : Run hd) (m : Move) (p :
               q : Ran
               q = whole n (with_coord y did.part) did.outs b.disk
 
-          live_by : (o : Option Parts) → (let b = h.node in b.live) ≡ o → refusal_at w.header i o ≡ None → x ≡ (step_of w.header i h.node o).after →
-              (steps n i t).lines ≡ t.lines ++ numbered t.event (bodies n (length t.frames) (step_of w.header i h.node o).outs) → Found
-          live_by None down free is said = stays (is ∙ down_is w.header h.node)
-          live_by (Some y) up_it free is said = up_one y up_it free is said
+          live_by : (o : Option Parts) → (let b = h.node in b.live) ≡ o → refusal_at w.header i o ≡ None → x ≡ (step_of w.header i h.node o).after → Found
+          live_by None down free is = stays (is ∙ down_is w.header h.node)
+          live_by (Some y) up_it free is = up_one y up_it free is
 
-          by : (r : Option ℕ) → refusal w.header i h.node ≡ r → x ≡ (step_unless w.header i h.node r).after →
-              (steps n i t).lines ≡ t.lines ++ numbered t.event (bodies n (length t.frames) (step_unless w.header i h.node r).outs) → Found
-          by (Some c) refused is said = stays is
-          by None free is said = live_by (let b = h.node in b.live) refl free is said
+          by : (r : Option ℕ) → refusal w.header i h.node ≡ r → x ≡ (step_unless w.header i h.node r).after → Found
+          by (Some c) refused is = stays is
+          by None free is = live_by (let b = h.node in b.live) refl free is
 
-      pub found_so : WaitedAt a ⊎ IsOver d
-      found_so = ⊎_elim (λ same. inl (as_before x same live)) (⊎_elim (λ down. gone down) (λ r. stepped r.2 r.0 r.1 r.3)) (behind_it k x at)
+      pub found_so : WaitedAt a
+      found_so = ⊎_elim (λ same. as_before x same live) (⊎_elim (λ down. gone down) (λ r. stepped r.1 r.0)) (behind_it k x at)
         where
           gone : x.live ≡ None → Found
           gone down = let no_way : ◌≡◌ {A = Option Parts} (Some z) None = sym live ∙ down in absurd (cc no_way)
@@ -465,16 +427,24 @@ named_branch r c None free = let no_way : ◌≡◌ {A = Option ℕ} (Some 6) No
 named_branch r c (Some br) free = (br, refl)
 
 module _ (hd : Header) (form : HeaderInForm hd) (front : Run hd) (m : Move) (p : Past) (bodies : List Body) (s : Kept hd form p (world_by hd front))
-    (on : (let x = world_by hd front in x.over) ≡ false) (after : Kept hd form (next p (event_of m) bodies) (moved m (world_by hd front))) where
+    (on : (let x = world_by hd front in x.over) ≡ false) (after : Kept hd form (next p (event_of m) bodies) (moved m (world_by hd front)))
+    (few : HasFewBindings (moved m (world_by hd front)).lines) where
+  few_before_it : HasFewBindings (world_by hd front).lines
+  few_before_it = subst HasFewBindings (ties.same_lines hd form p (world_by hd front) s.all)
+      (few_before p.lines (block (p.count + 1) bodies) (subst HasFewBindings
+      (sym (ties.same_lines hd form (next p (event_of m) bodies) (moved m (world_by hd front)) after.all)) few))
+
   found_by : (alone : hd.nodes ≡ 1) (e : Event) → event_of m ≡ e → (l : List ℕ) → asking e ≡ Some l → (k : ℕ) (x : Node) (z : Parts) →
       at_place k (moved m (world_by hd front)).nodes ≡ Some x → x.live ≡ Some z → (a : Uid) (d : Doing) → doing_of a z.coord ≡ Some d →
-      is_waiting_now d.now ≡ true → WaitedAt hd form front m p s on alone a ⊎ IsOver hd form front m p s on alone d
-  found_by alone (event.Call l x o) is name_is asks_it = found_so hd form front m p s on alone (input.Call l x o) l
+      is_waiting_now d.now ≡ true → WaitedAt hd form front m p s on few_before_it alone a
+  found_by alone (event.Call l x o) is name_is asks_it = found_so hd form front m p s on few_before_it alone (input.Call l x o) l
       (world_node l (counted (record (world_by hd front) { arms = m.falls })))
       (ap (λ e. happens e (let g = m.asked in g.arm) (counted (record (world_by hd front) { arms = m.falls }))) is)
       (λ a z. refl) (λ h a. refl) refl (λ none. tt) (λ c free. named_branch (call_reasons hd x o) c (branch_named l c) free)
       (λ c intents br b found. subst (λ g. Acts (actor br.path) b c (on_branch (λ f. asking_of.call f.path x o c) c g)) (sym found) (called br x o b c))
-  found_by alone (event.Include l x n) is name_is asks_it = found_so hd form front m p s on alone (input.Include l x n) l
+      (λ b y br found asks free one there live home. call_over hd (world_by hd front) (latest hd form front m p s on few_before_it alone)
+      few_before_it (world_node l (counted (record (world_by hd front) { arms = m.falls }))) b y there live home l br found one x o asks free)
+  found_by alone (event.Include l x n) is name_is asks_it = found_so hd form front m p s on few_before_it alone (input.Include l x n) l
       (world_node l (counted (record (world_by hd front) { arms = m.falls })))
       (ap (λ e. happens e (let g = m.asked in g.arm) (counted (record (world_by hd front) { arms = m.falls }))) is)
       (λ a z. refl) (λ h a. refl) refl
@@ -485,12 +455,16 @@ module _ (hd : Header) (form : HeaderInForm hd) (front : Run hd) (m : Move) (p :
       (λ c free. named_branch (include_reasons hd x) c (branch_named l c) free)
       (λ c intents br b found. subst (λ g. Acts (actor br.path) b c (on_branch (λ f. asking_of.include f.path x n c) c g)) (sym found)
       (included br x n b c))
-  found_by alone (event.Commit l) is name_is asks_it = found_so hd form front m p s on alone (input.Commit l) l
+      (λ b y br found asks free one there live home. include_over hd (world_by hd front) (latest hd form front m p s on few_before_it alone)
+      few_before_it (world_node l (counted (record (world_by hd front) { arms = m.falls }))) b y there live home l br found one x n asks free)
+  found_by alone (event.Commit l) is name_is asks_it = found_so hd form front m p s on few_before_it alone (input.Commit l) l
       (world_node l (counted (record (world_by hd front) { arms = m.falls })))
       (ap (λ e. happens e (let g = m.asked in g.arm) (counted (record (world_by hd front) { arms = m.falls }))) is)
       (λ a z. refl) (λ h a. refl) refl (λ none. tt) (λ c free. named_branch commit_reasons c (branch_named l c) free)
       (λ c intents br b found. subst (λ g. Acts (actor br.path) b c (on_branch (λ f. asking_of.commit_action f intents c) c g)) (sym found)
       (committed br intents b c))
+      (λ b y br found asks free one there live home. commits_over hd (world_by hd front) (latest hd form front m p s on few_before_it alone)
+      few_before_it (world_node l (counted (record (world_by hd front) { arms = m.falls }))) b y there live home l br found one)
   found_by alone e is name_is asks_it = let no_way : ◌≡◌ {A = Option (List ℕ)} None (Some name_is) = asks_it in absurd (cc no_way)
 
   pub alone_answered : AloneStep hd p (event_of m) bodies
@@ -499,12 +473,8 @@ module _ (hd : Header) (form : HeaderInForm hd) (front : Run hd) (m : Move) (p :
       q : Past
       q = next p (event_of m) bodies
 
-      Result : Type 0
-      Result = (is_waiting (next p (event_of m) bodies) l ≡ false)
-          ⊎ (is_overtaken (next p (event_of m) bodies).lines (waits_for (next p (event_of m) bodies).accepted (next p (event_of m) bodies).lines l) ≡ true)
-
-      waiting : is_waiting (next p (event_of m) bodies) l ≡ true → Result
-      waiting waits = ⊎_elim before over
+      waiting : is_waiting (next p (event_of m) bodies) l ≡ true → ⊥
+      waiting waits = before
           (found_by alone (event_of m) refl l asks_it work.number work.node work.parts work.there work.live work.act work.doing work.does waits_now)
         where
           work : IsAtWork (moved m (world_by hd front)) l
@@ -524,14 +494,7 @@ module _ (hd : Header) (form : HeaderInForm hd) (front : Run hd) (m : Move) (p :
                   ∙ (λ i. is_some (at.0 i) || at.1 i) in
                   let no_way : true ≡ false = sym waits ∙ none in absurd (cc no_way)
 
-          over : IsOver hd form front m p s on alone work.doing → Result
-          over o =
-              let e = overtaken_so_far hd form front m (next p (event_of m) bodies) after work.number work.node work.parts work.act work.doing o.0
-              work.there work.live work.does o.1 o.2 in
-              inr (ap (λ k. is_overtaken (next p (event_of m) bodies).lines (waits_for (next p (event_of m) bodies).accepted (next p (event_of m) bodies).lines k))
-              (sym work.label) ∙ ap (is_overtaken (next p (event_of m) bodies).lines) e.1 ∙ e.2)
-
-          before : WaitedAt hd form front m p s on alone work.act → Result
+          before : WaitedAt hd form front m p s on few_before_it alone work.act → ⊥
           before b =
               let old = ties.its_act hd form p (world_by hd front) s.all b.0 b.1 b.2 work.act b.3 b.4 b.5 b.6 in
               let new = ties.its_act hd form (next p (event_of m) bodies) (moved m (world_by hd front)) after.all work.number work.node work.parts work.act
@@ -546,13 +509,13 @@ module _ (hd : Header) (form : HeaderInForm hd) (front : Run hd) (m : Move) (p :
               let same : old.0 ≡ new.0 = one_act (all_acts (next p (event_of m) bodies).lines) old.0 new.0 apart later new.1 (old.3 ∙ sym new.3) in
               let label : name (let d = b.3 in d.label) ≡ l = sym old.2 ∙ ap (λ (z : Act). z.label) same ∙ new.2 ∙ work.label in
               let no_way : true ≡ false = sym (ties.waits_so hd form p (world_by hd front) s.all b.0 b.1 b.2 work.act b.3 b.4 b.5 b.6 b.7)
-              ∙ ap (is_waiting p) label ∙ rests in absurd (cc no_way)
+              ∙ ap (is_waiting p) label ∙ rests in cc no_way
 
-      by : (b : Bool) → is_waiting (next p (event_of m) bodies) l ≡ b → Result
-      by false none = inl none
-      by true waits = waiting waits
+      by : (b : Bool) → is_waiting (next p (event_of m) bodies) l ≡ b → is_waiting (next p (event_of m) bodies) l ≡ false
+      by false none = none
+      by true waits = absurd (waiting waits)
 
 -- so it is of each event of a run
 pub runs_answer_alone : RunsAnswerAlone
 runs_answer_alone hd r its = walked.runs_so hd its.header (AloneStep hd)
-    (λ front m p bodies s on step after. alone_answered hd its.header front m p bodies s on after) r its
+    (λ front m p bodies few s on step after. alone_answered hd its.header front m p bodies s on after few) r its

@@ -1,6 +1,6 @@
 -- Who waits as a quiesce begins that nothing cuts short, and behind it, by the journal.
 use Rattle.arj_law_parts.proofs.Words
-use Words.{◌≡◌, ◌∙◌, ◌+◌, ◌==◌, ◌&&◌, ◌||◌, not, ℕ, Bool, true, false, List, [], ◌∷◌, ◌++◌, length, refl, sym, ap, subst, arith, nat_tests}
+use Words.{◌≡◌, ◌∙◌, ◌+◌, ◌<◌, ◌==◌, ◌&&◌, ◌||◌, not, ltb-true, binding_number, ℕ, Bool, true, false, List, [], ◌∷◌, ◌++◌, length, refl, sym, ap, subst, arith, nat_tests}
 use Words.{Option, Some, None, is_some, option_map, ◌⊎◌, inl, inr, ⊎_elim, AllByRecursion, Contains, In, in_from, in_left, list_any-append, and_parts, list_all, list_any, bytes_eq}
 use Words.{bytes_eq-Decides, Body, Cause, Event, Header, Line, Label, Uid, Binding, name, Move, World, moved, world_by, Coord, Doing, Calling, Committing, Idle, Now}
 use Words.{Node, Parts, at_place, coord_in, coord_of, doing_of, is_node, is_waiting_now, see, AreUp, HasAnswer, IsAnswerTo, IsOvertaken, IsSaid}
@@ -46,6 +46,12 @@ use Rattle.arj_law_cause.specs.rounds.Quiesces.{is_given_up, is_overtaken, makes
 use Rattle.arj_law_cause.specs.waits.commits.Commits.{CommitsFit, CommitsStep}
 use Rattle.arj_law_cause.specs.waits.lost.Lost.{LostStep, is_lost}
 use Rattle.arj_law_cause.specs.waits.waiting.Waits.{IsAsked, IsAt, IsAtWork}
+use Rattle.arj_law_parts.proofs.moves.Happens.{keeps_asked}
+use Rattle.arj_law_runs.specs.calls.Bindings.{HasFewBindings}
+use Rattle.arj_model.specs.CauseCopies.{is_older}
+use Rattle.arj_law_cause.proofs.bindings.Active.{older_is}
+use Rattle.arj_law_cause.proofs.bindings.Counted.{KnowsNames, names_keep}
+use Rattle.arj_law_cause.proofs.bindings.Latest.{count_small, said_lined}
 use Rattle.std.proofs.lemmas.List.{append_cancel_left}
 
 -- what is kept of a run up to an event: all that lines are tied to, and that it is over where its journal has a limit
@@ -170,7 +176,7 @@ same_number : (x : ℕ) → (x == x) ≡ true
 same_number x = grind (arith, nat_tests)
 
 twice_bound : (lines : List Line) (x : ℕ) (b c : Binding) (n k : ℕ) → IsSaid lines (body.Bound x b n) → IsSaid lines (body.Bound x c k) →
-    Rattle.arj_law_cause.specs.rounds.Quiesces.is_before b c ≡ true → is_bound_twice lines x ≡ true
+    is_older b c ≡ true → is_bound_twice lines x ≡ true
 twice_bound lines x b c n k one two less =
     any_in (λ (l : Line). is_outdone x lines l.body) lines one.0 (in_from one.0 lines one.1)
     (ap (is_outdone x lines) one.2 ∙ (λ i. same_number x i && later i))
@@ -182,9 +188,9 @@ twice_bound lines x b c n k one two less =
 -- of a run the call that is overtaken is on an object of which two bindings were made
 overtaken_so : (hd : Header) → HeaderInForm hd → (r : Run hd) (k : ℕ) (n : Node) (t : Parts) (u : Uid) (d : Doing) (s : Steps) →
     at_place k (let w = world_by hd r in w.nodes) ≡ Some n → n.live ≡ Some t → doing_of u t.coord ≡ Some d → d.now ≡ Calling s →
-    IsOvertaken (IsSaid (let w = world_by hd r in w.lines)) s →
+    IsOvertaken (IsSaid (let w = world_by hd r in w.lines)) s → HasFewBindings (let w = world_by hd r in w.lines) →
     (o : Op) × (s.goal ≡ calls.Run o) × (is_bound_twice (let w = world_by hd r in w.lines) s.x ≡ true)
-overtaken_so hd form r k n t u d s there live does now over =
+overtaken_so hd form r k n t u d s there live does now over few =
     by s.goal refl s.at over.step stands named
   where
     known : Holds hd (WaitsAreKnown hd) (world_by hd r)
@@ -199,11 +205,19 @@ overtaken_so hd form r k n t u d s there live does now over =
     stands : StandsOn s.goal (kept_of s.x (root_at (root_of s.path) t.coord)) s.at
     stands = let b = known.holds.0.1.0.0.1 in let z = b.nodes k n t there live in z.steps u d s does now
 
+    names : Holds hd KnowsNames (world_by hd r)
+    names = moves_asked hd KnowsNames (keeps_asked hd KnowsNames (names_keep hd)) r
+
+    small : (b : Binding) (n : ℕ) → IsSaid (let w = world_by hd r in w.lines) (body.Bound s.x b n) → b.count < 4294967296
+    small b n line = count_small (let w = world_by hd r in w.start) (let w = world_by hd r in w.lines) names.holds.1.0 few s.x b n
+        (said_lined (let w = world_by hd r in w.lines) s.x b n line)
+
     said : (b : Binding) → over.known.binding ≡ b → (g : ℕ) → WasNamed M.sent (WasMade M) s.path s.x b g →
         is_bound_twice (let w = world_by hd r in w.lines) s.x ≡ true
     said b same g made = let c = made.claim in
         twice_bound (let w = world_by hd r in w.lines) s.x b over.binding made.server over.server c.0 over.line
-        (ap (λ (z : Binding). binding_less z over.binding) (sym same) ∙ over.greater)
+        (older_is b over.binding (small b made.server c.0) (small over.binding over.server over.line)
+        (ltb-true (binding_number b) (binding_number over.binding) (ap (λ (z : Binding). binding_less z over.binding) (sym same) ∙ over.greater)))
 
     by : (g : Goal) → s.goal ≡ g → (at : At) → IsToSettle at over.known → StandsOn g (kept_of s.x (root_at (root_of s.path) t.coord)) at →
         NamedAt M.sent (WasMade M) g s.path s.x at →
@@ -221,7 +235,8 @@ overtaken_so hd form r k n t u d s there live does now over =
 
 -- ---- a call that is overtaken, behind an event
 
-module _ (hd : Header) (form : HeaderInForm hd) (front : Run hd) (m : Move) (q : Past) (after : Kept hd form q (moved m (world_by hd front))) where
+module _ (hd : Header) (form : HeaderInForm hd) (front : Run hd) (m : Move) (q : Past) (after : Kept hd form q (moved m (world_by hd front)))
+    (few : HasFewBindings (moved m (world_by hd front)).lines) where
   -- the run with this event
   abbrev longer : Run hd
   longer = then front (m ∷ [])
@@ -235,7 +250,8 @@ module _ (hd : Header) (form : HeaderInForm hd) (front : Run hd) (m : Move) (q :
       × (waits_for q.accepted q.lines (name d.label) ≡ Some e) × (is_overtaken q.lines (Some e) ≡ true)
   overtaken_so_far k n t u d x there live does now over =
       let o = overtaken_so hd form longer k n t u d x (ap (λ (z : World). at_place k z.nodes) longer_is ∙ there) live does now
-      (subst (λ (z : World). IsOvertaken (IsSaid z.lines) x) (sym longer_is) over) in
+      (subst (λ (z : World). IsOvertaken (IsSaid z.lines) x) (sym longer_is) over)
+      (subst (λ (z : World). HasFewBindings z.lines) (sym longer_is) few) in
       let a : IsAsked q.accepted q.lines d.label x = subst (IsAt q.accepted q.lines d.label) now
       (ties.at_node hd form q (moved m (world_by hd front)) after.all k n t u d there live does) in
       let g = a.goal in (
@@ -288,8 +304,9 @@ module _ (hd : Header) (form : HeaderInForm hd) (front : Run hd) (m : Move) (p :
 
   -- ---- at its end
 
-  leaves : (l : List ℕ) → is_waiting q l ≡ true → is_overtaken q.lines (waits_for q.accepted q.lines l) ≡ true
-  leaves l waits = by work.doing.now refl (ties.at_node hd form q v after.all work.number work.node work.parts work.act work.doing work.there work.live work.does)
+  leaves : HasFewBindings (moved m (world_by hd front)).lines → (l : List ℕ) → is_waiting q l ≡ true →
+      is_overtaken q.lines (waits_for q.accepted q.lines l) ≡ true
+  leaves few l waits = by work.doing.now refl (ties.at_node hd form q v after.all work.number work.node work.parts work.act work.doing work.there work.live work.does)
     where
       work : IsAtWork v l
       work = ties.at_work hd form q v after.all l waits
@@ -304,7 +321,7 @@ module _ (hd : Header) (form : HeaderInForm hd) (front : Run hd) (m : Move) (p :
       so waits_now =
           let o = runs_leave_overtaken hd form front m is goes_on still_up work.number (let t = work.parts in t.coord) work.act d
           (ties.node_there hd form q v after.all work.number work.node work.there) found work.does waits_now in
-          let e = overtaken_so_far hd form front m q after work.number work.node work.parts work.act d o.0 work.there work.live work.does o.1 o.2 in
+          let e = overtaken_so_far hd form front m q after few work.number work.node work.parts work.act d o.0 work.there work.live work.does o.1 o.2 in
           ap (λ k. is_overtaken q.lines (waits_for q.accepted q.lines k)) (sym work.label) ∙ ap (is_overtaken q.lines) e.1 ∙ e.2
 
       by : (x : Now) → d.now ≡ x → IsAt q.accepted q.lines d.label x → is_overtaken q.lines (waits_for q.accepted q.lines l) ≡ true
@@ -357,8 +374,8 @@ module _ (hd : Header) (form : HeaderInForm hd) (front : Run hd) (m : Move) (p :
   abbrev Still : List ℕ → Event → Type 0
   Still l e = ((waits_for q.accepted q.lines l ≡ Some e) × (is_overtaken q.lines (Some e) ≡ true)) ⊎ (list_any (answers_call l) bodies ≡ true)
 
-  calls_so : (l : List ℕ) (e : Event) → waits_for p.accepted p.lines l ≡ Some e → Still l e
-  calls_so l e is_asked = by (let z = work l waits in let y = z.doing in y.now) refl (stands l waits)
+  calls_so : HasFewBindings (moved m (world_by hd front)).lines → (l : List ℕ) (e : Event) → waits_for p.accepted p.lines l ≡ Some e → Still l e
+  calls_so few l e is_asked = by (let z = work l waits in let y = z.doing in y.now) refl (stands l waits)
     where
       waits : is_waiting p l ≡ true
       waits = λ i. is_some (is_asked i) || is_committing p.lines l
@@ -379,7 +396,7 @@ module _ (hd : Header) (form : HeaderInForm hd) (front : Run hd) (m : Move) (p :
       still o =
           let a = at_of (see [] v) (work l waits).number o.still.coord o.still.found in
           let does = ap (doing_of (work l waits).act) a.same ∙ o.still.does in
-          let x = overtaken_so_far hd form front m q after (work l waits).number a.node a.parts (work l waits).act o.still.doing o.steps a.found a.live does o.now o.overtaken in
+          let x = overtaken_so_far hd form front m q after few (work l waits).number a.node a.parts (work l waits).act o.still.doing o.steps a.found a.live does o.now o.overtaken in
           let same : waits_for q.accepted q.lines l ≡ Some x.0 =
           ap (waits_for q.accepted q.lines) (sym (ap name o.still.label ∙ label)) ∙ x.1 in
           let one : x.0 ≡ e = waits_same p.accepted q.accepted p.lines q.lines l e x.0
@@ -458,11 +475,11 @@ module _ (hd : Header) (form : HeaderInForm hd) (front : Run hd) (m : Move) (p :
   pub says_quiet : EndsQuiet v → SaysQuiet bodies
   says_quiet e = says_last w.lines e.line.0 (p.count + 1) v.event bodies its.some (sym lines_are ∙ e.line.1)
 
-  pub quiesce_answers : Answers p (event_of m) bodies
-  quiesce_answers = record {
-    calls = calls_so;
+  pub quiesce_answers : HasFewBindings (moved m (world_by hd front)).lines → Answers p (event_of m) bodies
+  quiesce_answers few = record {
+    calls = calls_so few;
     commits = commits_so;
-    leaves = leaves;
+    leaves = leaves few;
     nothing = its.kept kept;
     calm = λ nobody none. says_quiet (quiesces_idle hd form front m (ties.none_open hd form p w s.all none)
         (ties.nobody hd form p w s.all nobody) is goes_on still_up);

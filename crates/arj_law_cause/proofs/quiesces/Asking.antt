@@ -118,7 +118,7 @@ module _ (hd : Header) (form : HeaderInForm hd) where
   gives : AnswersWaits hd P
   gives = all_answer hd form P (λ M p. p.0)
 
-  homes : (k : ℕ) (d : Disk) (t : Parts) (M : Seen) → P (up k d t M) → IsHome t.coord
+  pub homes : (k : ℕ) (d : Disk) (t : Parts) (M : Seen) → P (up k d t M) → IsHome t.coord
   homes k d t M p = good_home k d t M p.1
 
   abbrev pub Ways : (ℕ → Option Node) → (Post → Type 0) → (Body → Type 0) → Type 0

@@ -343,7 +343,7 @@ module _ (hd : Header) (form : HeaderInForm hd) where
 
 pub runs_answer : RunsAnswer
 runs_answer hd r its = walked.runs_so hd its.header (QuiescesStep hd)
-    (λ front m p bodies s on step after whole. answered.quiesce_answers hd its.header front m p bodies s on step after whole) r its
+    (λ front m p bodies few s on step after whole. answered.quiesce_answers hd its.header front m p bodies s on step after whole few) r its
 
 pub runs_end_rounds : RunsEndRounds
 runs_end_rounds hd r its = rounds_end hd its.header r its

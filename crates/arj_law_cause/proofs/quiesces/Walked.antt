@@ -1,12 +1,14 @@
 -- A run event by event, with what each wrote, and the worlds between them.
 use Rattle.arj_law_parts.proofs.Words
-use Words.{◌≡◌, ◌∙◌, ◌+◌, ◌==◌, ℕ, Bool, true, false, cond, List, [], ◌∷◌, ◌++◌, length, map, take, suc, refl, sym, ap, subst, arith, nat_tests}
+use Words.{◌≡◌, ◌∙◌, ◌+◌, ◌≤◌, ◌==◌, length-append, most_events, ℕ, Bool, true, false, cond, List, [], ◌∷◌, ◌++◌, length, map, take, suc, refl, sym, ap, subst, arith, nat_tests}
 use Words.{append-nil, append_assoc, AllByRecursion, Body, Event, Header, Line, World, Move, Start, all_moved, moved, world_from, journal_by, world_by}
 use Words.{◌⊎◌, inl, inr, first_reason, reasons, run_unless}
 use Words.body
 use Rattle.arj_journal.specs.ScriptForm.{HeaderInForm}
 use Rattle.arj_law_parts.proofs.Terms.which
 use Rattle.arj_law_parts.proofs.moves.Moving.{more_moves}
+use Rattle.arj_law_runs.proofs.bindings.Events.{moves_few}
+use Rattle.arj_law_runs.specs.calls.Bindings.{HasFewBindings}
 use Rattle.arj_law_runs.proofs.follow.Along.{Ended, Outcome, Went, event_of, over_stays, ran, ran_first}
 use Rattle.arj_law_runs.specs.follow.Frames.{run_events}
 use Rattle.arj_model.specs.Follows.{AreEnding, Runs}
@@ -155,22 +157,35 @@ module _ (hd : Header) (form : HeaderInForm hd) where
 
   -- what each event leaves and what it wrote holds along the run
   pub along : (Step : Past → Event → List Body → Type 0) (st : Start) (formed : IsFormed hd st) →
-      ((front : Run hd) (m : Move) (p : Past) (bodies : List Body) → Kept hd form p (world_by hd front) →
+      ((front : Run hd) (m : Move) (p : Past) (bodies : List Body) → HasFewBindings (moved m (world_by hd front)).lines → Kept hd form p (world_by hd front) →
       (let x = world_by hd front in x.over) ≡ false → joined.Said hd form p (event_of m) bodies →
       Kept hd form (next p (event_of m) bodies) (moved m (world_by hd front)) → Step p (event_of m) bodies) →
-      (front : Run hd) (ds : List Did) (ms : List Move) (p : Past) → IsWalked ms p (world_by hd front) ds →
-      Along Step p (map (λ (d : Did). d.event) ds) (behind p ds)
-  along Step st formed gives front [] ms p walked = refl
-  along Step st formed gives front (d ∷ ds) [] p walked = absurd walked
-  along Step st formed gives front (d ∷ ds) (m ∷ ms) p walked =
+      (front : Run hd) (ds : List Did) (ms : List Move) (p : Past) → length front.moves + length ms ≤ most_events →
+      IsWalked ms p (world_by hd front) ds → Along Step p (map (λ (d : Did). d.event) ds) (behind p ds)
+  along Step st formed gives front [] ms p short walked = refl
+  along Step st formed gives front (d ∷ ds) [] p short walked = absurd walked
+  along Step st formed gives front (d ∷ ds) (m ∷ ms) p short walked =
       let on : IsWalked ms (next p d.event d.bodies) (world_by hd (then front (m ∷ []))) ds =
       subst (λ x. IsWalked ms (next p d.event d.bodies) x ds) (sym (more_moves front.moves (m ∷ []) (world_from hd front.start))) walked.4 in (
         d.bodies,
-        subst (λ e. Step p e d.bodies) (sym walked.2) (gives front m p d.bodies walked.0 walked.1 walked.3
+        subst (λ e. Step p e d.bodies) (sym walked.2) (gives front m p d.bodies few walked.0 walked.1 walked.3
             (subst (λ e. Kept hd form (next p e d.bodies) (moved m (world_by hd front))) walked.2
             (kept_first ms (next p d.event d.bodies) (moved m (world_by hd front)) ds walked.4))),
-        along Step st formed gives (then front (m ∷ [])) ds ms (next p d.event d.bodies) on,
+        along Step st formed gives (then front (m ∷ [])) ds ms (next p d.event d.bodies)
+            (subst (λ n. n + length ms ≤ most_events) (sym (length-append front.moves (m ∷ [])))
+            (one_on (length front.moves) (length ms) short)) on,
       )
+    where
+      one_on : (a b : ℕ) → a + suc b ≤ most_events → (a + 1) + b ≤ most_events
+      one_on a b le = omega (arith, le)
+
+      least : (a b : ℕ) → a + suc b ≤ most_events → a + 1 ≤ most_events
+      least a b le = omega (arith, le)
+
+      few : HasFewBindings (moved m (world_by hd front)).lines
+      few = subst (λ (x : World). HasFewBindings x.lines) (more_moves front.moves (m ∷ []) (world_from hd front.start))
+          (moves_few hd (then front (m ∷ [])) (subst (λ n. n ≤ most_events) (sym (length-append front.moves (m ∷ [])))
+          (least (length front.moves) (length ms) short)))
 
   -- ---- a run
 
@@ -201,7 +216,7 @@ module _ (hd : Header) (form : HeaderInForm hd) where
 
   -- what each event leaves and what it wrote holds of the events of a run
   pub runs_so : (Step : Past → Event → List Body → Type 0) → ((front : Run hd) (m : Move) (p : Past) (bodies : List Body) →
-      Kept hd form p (world_by hd front) → (let x = world_by hd front in x.over) ≡ false → joined.Said hd form p (event_of m) bodies →
+      HasFewBindings (moved m (world_by hd front)).lines → Kept hd form p (world_by hd front) → (let x = world_by hd front in x.over) ≡ false → joined.Said hd form p (event_of m) bodies →
       Kept hd form (next p (event_of m) bodies) (moved m (world_by hd front)) → Step p (event_of m) bodies) → (r : Run hd) → IsInForm hd r →
       Runs Step r.start (run_events hd r) (journal_by hd r)
   runs_so Step gives r its =
@@ -210,7 +225,10 @@ module _ (hd : Header) (form : HeaderInForm hd) where
         behind (at_start r.start) k.did,
         w.ending,
         subst (λ es. Along Step (at_start r.start) es (behind (at_start r.start) k.did)) w.events
-            (along Step r.start r.formed gives (record r { moves = [] }) k.did r.moves (at_start r.start) k.walked),
+            (along Step r.start r.formed gives (record r { moves = [] }) k.did r.moves (at_start r.start) (none (length r.moves) its.few) k.walked),
         w.lines,
         w.last,
       )
+    where
+      none : (n : ℕ) → n ≤ most_events → 0 + n ≤ most_events
+      none n le = omega (arith, le)

@@ -1,5 +1,5 @@
 -- What a quiesce answers and leaves, by the header, the events and the lines alone.
-use Rattle.std.specs.Prelude.{◌≡◌, ◌⊎◌, ℕ, ◌+◌, ◌*◌, List, [], ◌∷◌, ◌++◌, Bool, true, false, ◌==◌, ◌&&◌, not, nat_lt, Option, Some}
+use Rattle.std.specs.Prelude.{◌≡◌, ◌⊎◌, ℕ, List, [], ◌∷◌, ◌++◌, Bool, true, false, ◌==◌, ◌&&◌, not, Option, Some}
 use Rattle.std.specs.List.{list_all, list_any}
 use Rattle.std.specs.Str.{bytes_eq}
 use Rattle.arj_base.specs.declared.binding.Binding.{Binding}
@@ -11,6 +11,7 @@ use Rattle.arj_journal.specs.declared.event.Event.TheVariants as event
 use Rattle.arj_journal.specs.declared.header.Header.{Header}
 use Rattle.arj_text.specs.Label.{name}
 use Rattle.arj_model.specs.Actions.{acts}
+use Rattle.arj_model.specs.CauseCopies.{is_older}
 use Rattle.arj_model.specs.CauseNodes.{is_quiesce}
 use Rattle.arj_model.specs.CauseSpans.{nodes_of}
 use Rattle.arj_model.specs.Own.{is_refusal_of_commit}
@@ -40,13 +41,9 @@ pub record IsWhole (hd : Header) (past : Past) (e : Event) (bodies : List Body) 
 
 -- ---- calls that are overtaken
 
--- The binding was made earlier: by an earlier incarnation of naming, or as an earlier one of the same. Each number has 32 bits.
-abbrev pub is_before : Binding → Binding → Bool
-is_before b c = nat_lt (b.inc * 4294967296 + b.count) (c.inc * 4294967296 + c.count)
-
 -- the line says that a binding of this object was made, and that is later than this one
 abbrev pub makes_later : ℕ → Binding → Body → Bool
-makes_later x b (body.Bound y c n) = (y == x) && is_before b c
+makes_later x b (body.Bound y c n) = (y == x) && is_older b c
 makes_later x b _ = false
 
 -- the line says that a binding of this object was made, and one of these lines that a later one was
