@@ -1,7 +1,7 @@
 -- What quiesces answer and leave, by the journal: limits (`Limits`), who is up and who waits at nodes as the journal has it (`Ties`), lines
 -- of a quiesce by themselves (`Journals`), each quiesce that nothing cuts short (`Answered`), a run event by event (`Walked`), the
--- stated round (`Rounds`), that a journal tells how nodes are (`Known`), and what is
--- asked on one node (`Asking`, `Alone`).
+-- stated round (`Rounds`), that a journal tells how nodes are (`Known`), and what is asked on one node (`Asking`, `Alone`): one call makes one
+-- binding at most (`Chain`), a commit none (`Commits`), and what is bound is the last of its object (`Binds`).
 pub mod Limits
 pub mod Ties
 pub mod Journals

@@ -28,7 +28,7 @@ pub fn rounds_end_quiet()
 {}
 
 /// In every run in form on one node, wherever it begins and wherever disks stop, whoever calls, includes or commits is answered in that
-/// event: behind it the action, if it didn't wait before, waits for nothing, or for a call that is overtaken. It does nothing when it runs.
+/// event: behind it the action, if it didn't wait before, waits for nothing. It does nothing when it runs.
 pub fn asked_alone_is_answered()
     ensures runs { RunsAnswerAlone }
 {}

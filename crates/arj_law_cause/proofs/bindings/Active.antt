@@ -3,15 +3,14 @@ use Rattle.arj_law_parts.proofs.Words
 use Words.{◌≡◌, ◌≤◌, ◌<◌, ◌∙◌, ◌+◌, ◌*◌, ◌==◌, ◌++◌, ◌&&◌, ◌||◌, not, ℕ, Bool, true, false, cond, List, [], ◌∷◌, Option, Some, None, refl}
 use Words.{sym, ap, subst, inl, inr, ⊤, arith, nat_lt, nat_tests, list_all, list_any, and_parts, eqb-true, map, AllByRecursion, Ask}
 use Words.{Binding, Body}
-use Words.{Event, Head, Header, Line, Message, ObjectState, Start, Reply, asks, asked_by, response, Disk, Do, Effect, Say, Send, Served}
+use Words.{Event, Head, Header, Line, Message, ObjectState, Start, Reply, asks, Disk, Do, Effect, Say, Send, Served}
 use Words.{void, reply}
-use Words.{Handled, Parts, Took, Void, handle, handle_ask, holders, is_meant, query_about, with_server, acts as does, acts_own, again_all}
+use Words.{Handled, Parts, Took, Void, handle, handle_ask, holders, query_about, with_server, acts as does, acts_own, again_all}
 use Words.{again_own, all_both, AreAll, is_coord_effect, is_coord_line, begin_action, parent_of, tick_outs, tolds_again, tolds_again_own}
 use Words.{restart_outs}
-use Words.{Server, active_binding, has_ended, took_copy, binding_eq, binding_less, binding_number, In, numbered}
+use Words.{Server, active_binding, has_ended, took_copy, binding_eq, binding_less, binding_number, In}
 use Words.ask
 use Words.body
-use Words.event
 use Words.input
 use Words.server
 use Rattle.arj_law_parts.proofs.moves.Happens.{Wide}

@@ -2,7 +2,8 @@
 use Rattle.arj_law_parts.proofs.Words
 use Words.{⊤, ◌≡◌, ◌∙◌, ◌⊎◌, ◌&&◌, not, ℕ, Bool, true, false, cond, List, [], ◌∷◌, Option, Some, None, refl, sym, ap, inl, inr, Binding}
 use Words.{BoundReply}
-use Words.{Entry, Path, Row, Mode, entry, entry_row, last_uid, rows_asked, top_of, top_path, is_granted, Say, Served, Counted, Live, Made, Named}
+use Words.{Entry, Path, Row, Mode, entry, entry_row, last_uid, rows_asked, top_of, top_path, is_granted, Say, Served, Counted, Live, Made}
+use Words.{Named}
 use Words.{bind_call}
 use Words.{bind_made, bind_named, conflict_on, include_asked, live_above, live_asked, lock_lines, made_above, make_asked, next_server}
 use Words.{at_uid, binding_less}
@@ -67,7 +68,8 @@ module _ (inc x : ℕ) (p : Path) (e : Entry) (c : Counted) where
     again = tt;
   })
 
-  made_shape : (q : Option Made) → ((m : Made) → q ≡ Some m → (at_uid (top_of p) (let o = c.named in o.made) ≡ Some m) × (m.recorded ≡ false)) →
+  made_shape : (q : Option Made) → ((m : Made) → q ≡ Some m → (at_uid (top_of p) (let o = c.named in o.made) ≡ Some m)
+      × (m.recorded ≡ false)) →
       Shape (bind_made inc x p e c q)
   made_shape (Some m) was = inl (record {
     count = refl;

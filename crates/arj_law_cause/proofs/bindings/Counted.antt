@@ -1,19 +1,19 @@
 -- Naming's incarnation, count and turns are those of the journal, and each binding that it has stands there, of its object and server.
 use Rattle.arj_law_parts.proofs.Words
-use Words.{◌≡◌, ◌⊎◌, ◌≤◌, ◌<◌, ◌∙◌, ◌+◌, ◌==◌, ◌++◌, ◌&&◌, not, ℕ, Bool, true, false, cond, List, [], ◌∷◌, length, map, Option, Some}
+use Words.{◌≡◌, ◌⊎◌, ◌≤◌, ◌<◌, ◌∙◌, ◌+◌, ◌==◌, ◌++◌, ◌&&◌, ℕ, Bool, true, false, cond, List, [], ◌∷◌, length, map, Option, Some}
 use Words.{None, refl}
 use Words.{sym, ap, subst, inl, inr, ⊎_elim, ⊤, arith, append-nil, append_assoc, length-append, list_all, and_parts, eqb-true, eq-eqb}
 use Words.{option_map}
-use Words.{AllByRecursion, Ask, Asked, Binding, Body, BoundReply, Head, Header, Line, Message, ObjectState, Path, Start, Uid, asks}
+use Words.{Ask, Binding, Body, BoundReply, Head, Header, Line, Message, ObjectState, Path, Start, Uid, asks}
 use Words.{asked_by}
-use Words.{response, Reply, Disk, Do, Effect, Say, Send, Served, void, Counted, Made, Named, bind_named, bound_new, lock_lines, locked}
+use Words.{response, Reply, Disk, Do, Effect, Say, Send, Served, void, Counted, Named, bind_named, bound_new, lock_lines, locked}
 use Words.{next_server}
 use Words.{named_back, recovered_naming, Pair, Naming, is_over, listed_entry, on_counted, at_number, put_number, put_other, put_same}
 use Words.{top_of}
-use Words.{Handled, Parts, Took, Void, handle, handle_ask, is_meant, served, serve, if_naming, sends_answer, taken, with_coord}
+use Words.{Handled, Parts, Took, Void, handle, handle_ask, is_meant, served, if_naming, sends_answer, taken}
 use Words.{with_naming}
-use Words.{Coord, Node, node_by, numbers_to, at_place, naming_at, parts_in, restart_outs, is_eq, nat_cmp, is_coord_line, is_naming_line}
-use Words.{is_server_line, numbered, Seen, see, world_from, is_some, nat_tests}
+use Words.{parts_in, restart_outs, is_eq, nat_cmp, is_coord_line, is_naming_line}
+use Words.{is_server_line, numbered, Seen, nat_tests}
 use Words.ask
 use Words.body
 use Words.mode

@@ -1,11 +1,16 @@
--- A binding that isn't recorded yet, of a top that has the write lock on the object's entry, is the last one that naming made of the object.
+-- A binding that isn't recorded yet, of a top that has the write lock on the object's entry, is the last one that naming made of the
+-- object.
 use Rattle.arj_law_parts.proofs.Words
-use Words.{◌≡◌, ◌≢◌, ◌⊎◌, ◌≤◌, ◌<◌, ◌∙◌, ◌+◌, ◌==◌, ◌++◌, ℕ, Bool, true, false, cond, map, List, [], ◌∷◌, Option, Some, None, refl, sym, ap, subst}
-use Words.{inl, inr, ⊎_elim, ⊤, arith, append-nil, append_assoc, list_all, and_parts, eqb-true, option_map, is_eq, nat_cmp, one_or_two, uid_cases, all_both}
-use Words.{Ask, Binding, Body, BoundReply, Contains, Head, Header, Line, Message, ObjectState, Path, Row, Start, Uid, asks, asked_by, last_uid, response}
-use Words.{Reply, Disk, Do, Effect, Pair, Say, Send, Served, void, Counted, Made, Named, Naming, bind_named, bound_new, entry_row, listed_entry, lock_lines}
-use Words.{locked, next_server, named_back, recovered_naming, is_over, on_counted, at_number, at_uid, put_number, put_same, put_other, put_uid, top_of}
-use Words.{Handled, Parts, Took, Void, handle, handle_ask, if_naming, is_meant, sends_answer, serve, with_naming, naming_at, parts_in, numbered, Seen}
+use Words.{◌≡◌, ◌⊎◌, ◌≤◌, ◌<◌, ◌∙◌, ◌+◌, ◌==◌, ◌++◌, ℕ, Bool, true, false, cond, map, List, [], ◌∷◌, Option, Some, None, refl, sym, ap}
+use Words.{subst}
+use Words.{inl, inr, ⊎_elim, ⊤, arith, append-nil, append_assoc, list_all, and_parts, eqb-true, option_map, is_eq, nat_cmp, one_or_two}
+use Words.{uid_cases, all_both}
+use Words.{Ask, Binding, Body, BoundReply, Head, Header, Line, Message, ObjectState, Path, Row, Start, Uid, asks, asked_by, response}
+use Words.{Reply, Disk, Do, Effect, Pair, Say, Send, Served, void, Counted, Made, Named, Naming, bind_named, bound_new, entry_row}
+use Words.{listed_entry, lock_lines}
+use Words.{locked, next_server, named_back, recovered_naming, is_over, on_counted, at_number, at_uid, put_number, put_same, put_other}
+use Words.{put_uid, top_of}
+use Words.{Handled, Parts, Took, Void, handle, handle_ask, if_naming, is_meant, sends_answer, with_naming, parts_in, numbered, Seen}
 use Words.ask
 use Words.body
 use Words.mode
@@ -27,7 +32,8 @@ use Rattle.arj_law_runs.proofs.kept.Walked.{same_number}
 use Rattle.arj_law_runs.specs.calls.Bindings.{HasFewBindings, bindings_made, bound_by}
 use Rattle.arj_law_serial.proofs.holding.Says as saying
 use Rattle.arj_law_cause.proofs.bindings.Binding.{IsAskedFor, IsLight, bind_shape, locks_plain}
-use Rattle.arj_law_cause.proofs.bindings.Counted.{HasNames, IsBefore, IsGiven, KnowsNames, is_free, message_free, names_keep, no_bound, owns}
+use Rattle.arj_law_cause.proofs.bindings.Counted.{HasNames, IsBefore, IsGiven, KnowsNames, is_free, message_free, names_keep, no_bound}
+use Rattle.arj_law_cause.proofs.bindings.Counted.{owns}
 use Rattle.arj_model.specs.Refusals.{incarnation}
 use Rattle.arj_law_cause.proofs.bindings.Lines.{IsLined, lined_parts, lined_still, quiet_tells, tells}
 use Rattle.arj_law_cause.proofs.bindings.Nodes as nodes
@@ -85,7 +91,8 @@ latest_off j k off t st ls e (body.Bound x b s) own h = λ n at.
     turned m n is = grind (arith, Words.nat_tests, is)
 latest_off j k off t st ls e b own h = latest_unsaid j t st ls e b refl h
 
-pub nothing_stays : (st : Start) (ls : List Line) (e : ℕ) (b : Body) → tells b ≡ false → Nothing st ls → Nothing st (ls ++ numbered e (b ∷ []))
+pub nothing_stays : (st : Start) (ls : List Line) (e : ℕ) (b : Body) → tells b ≡ false → Nothing st ls →
+    Nothing st (ls ++ numbered e (b ∷ []))
 nothing_stays st ls e b is h = tt
 
 abbrev pub Latest : Seen → Type 0
@@ -144,7 +151,8 @@ module _ (acts : List Action) (x : ℕ) (p : Path) (q : Named) (told : Uid → B
 
       own : u ≡ top_of p → HasLock u 2 q.rows
       own is = subst (λ w. HasLock w 2 q.rows) (sym is)
-          (good.unrecorded (top_of p) m (ap (λ w. at_uid w q.made) (sym is) ∙ was) not_yet (owner_untold (owners_of acts) told x p fits untold)).lock
+          (good.unrecorded (top_of p) m (ap (λ w. at_uid w q.made) (sym is) ∙ was) not_yet (owner_untold
+              (owners_of acts) told x p fits untold)).lock
 
       by : IsAskedFor x p (let o = c.named in o.rows) (let z = r.part in (let o = z.named in o.rows)) → HasLock u 2 q.rows
       by (inl is) = subst (HasLock u 2) (is ∙ ap (λ (o : Named). o.rows) same) lock
@@ -163,18 +171,23 @@ module _ (k e : ℕ) (t : Parts) (st : Start) (fs : List Effect) (plain : ArePla
   abbrev put_back : Named → ℕ → Naming
   put_back v count = record n { count = count; objects = put_number x v n.objects }
 
-  light_due : (r : Served Counted BoundReply) → IsLight x p (record { named = q; count = n.count }) r → (ls : List Line) → HasLatest k t st ls →
+  light_due : (r : Served Counted BoundReply) → IsLight x p (record { named = q; count = n.count }) r → (ls : List Line) →
+      HasLatest k t st ls →
       Due k (with_naming t (put_back (let v = r.part in v.named) (let v = r.part in v.count))) st e (r.outs ++ fs) ls
   light_due r light ls h = nodes.plain_due HasLatest Nothing latest_keeps latest_off nothing_stays k
       (with_naming t (put_back (let v = r.part in v.named) (let v = r.part in v.count))) st e (r.outs ++ fs)
       (all_both (saying.says nodes.is_plain) r.outs fs light.plain plain) ls tt now
     where
       now : HasLatest k (with_naming t (put_back (let v = r.part in v.named) (let v = r.part in v.count))) st ls
-      now o is = let old = h n at in (old.0, subst (AllLatest ls) (some_is is)
-          (fewer_latest ls n (put_back (let v = r.part in v.named) (let v = r.part in v.count))
-          (fewer_put n x (let v = r.part in v.count) q (let v = r.part in v.named) there
-          (light_fewer acts x p q (Words.is_on n.told) n.inc n.count fits untold (good x q there) (record { named = q; count = n.count }) r refl light))
-          old.1))
+      now o is = let old = h n at in (
+        old.0,
+        subst (AllLatest ls) (some_is is)
+            (fewer_latest ls n (put_back (let v = r.part in v.named) (let v = r.part in v.count))
+            (fewer_put n x (let v = r.part in v.count) q (let v = r.part in v.named) there
+            (light_fewer acts x p q (Words.is_on n.told) n.inc n.count fits untold (good x q there)
+                (record { named = q; count = n.count }) r refl light))
+            old.1),
+      )
 
   -- each line's binding was made before the next one
   abbrev AllBefore : List Line → Type 0
@@ -220,12 +233,14 @@ module _ (k e : ℕ) (t : Parts) (st : Start) (fs : List Effect) (plain : ArePla
       is_latest : (ms : List Line) → AllBefore ms → (y : ℕ) (c : Binding) (z : ℕ) → IsLined ms y c z ⊎ (line ≡ body.Bound y c z) →
           IsBefore n.inc (n.count + 1) c
       is_latest ms gs y c z (inl before) = later c (gs y c z before)
-      is_latest ms gs y c z (inr same) = let one : b ≡ c = cc same in subst (IsBefore n.inc (n.count + 1)) one (inr (refl, least (n.count + 1)))
+      is_latest ms gs y c z (inr same) = let one : b ≡ c = cc same in subst (IsBefore n.inc (n.count + 1)) one (inr (refl, least
+          (n.count + 1)))
         where
           least : (a : ℕ) → a ≤ a
           least a = omega arith
 
-      other_line : (ms : List Line) (y : ℕ) → ((x == y) ≡ false) → (c : Binding) (z : ℕ) → IsLined ms y c z ⊎ (line ≡ body.Bound y c z) → IsLined ms y c z
+      other_line : (ms : List Line) (y : ℕ) → ((x == y) ≡ false) → (c : Binding) (z : ℕ) → IsLined ms y c z ⊎ (line ≡ body.Bound y c z) →
+          IsLined ms y c z
       other_line ms y off c z (inl before) = before
       other_line ms y off c z (inr same) = let one : x ≡ y = cc same in
           let no_way : true ≡ false = sym (same_number x) ∙ (λ i. x == one i) ∙ off in absurd (cc no_way)
@@ -241,7 +256,8 @@ module _ (k e : ℕ) (t : Parts) (st : Start) (fs : List Effect) (plain : ArePla
               (other_line ms y off.1 c z (lined_parts ms e line y c z h))
 
           here : x ≡ y → IsLatest (ms ++ numbered e (line ∷ [])) y m.binding
-          here same c z h = subst (λ (g : Binding). IsBefore g.inc g.count c) (sym its) (is_latest ms gs y c z (lined_parts ms e line y c z h))
+          here same c z h = subst (λ (g : Binding). IsBefore g.inc g.count c) (sym its) (is_latest ms gs y c z
+              (lined_parts ms e line y c z h))
             where
               is_o : o ≡ w
               is_o = some_is (sym (put_same x o n.objects) ∙ ap (λ j. at_number j (put_number x o n.objects)) same ∙ there_w)
@@ -254,7 +270,8 @@ module _ (k e : ℕ) (t : Parts) (st : Start) (fs : List Effect) (plain : ArePla
 
               its : m.binding ≡ b
               its = ⊎_elim (λ own. ap (λ (g : Made). g.binding) (sym own.1))
-                  (λ f. absurd (f.0 (one_top (owners_of acts) (Words.is_on n.told) x u (top_of p) 2 2 (locked x p mode.Write q).rows fine.rows
+                  (λ f. absurd (f.0 (one_top (owners_of acts) (Words.is_on n.told) x u (top_of p) 2 2
+                      (locked x p mode.Write q).rows fine.rows
                   (fine.made u m found_o).0 fits.top two_two lock_o (asked_has (entry_row x p mode.Write) q.rows))))
                   (put_cases u (top_of p) new m q.made found_o)
 
@@ -299,14 +316,16 @@ count_small st ls given few x b s h = low b.count (bindings_made ls) (given.smal
 -- ---- a message
 
 -- each line's binding was made before naming's next one
-pub made_before : (j : ℕ) (t : Parts) (st : Start) (ls : List Line) → HasNames j t st ls → IsGiven st ls → (n : Naming) → t.naming ≡ Some n →
+pub made_before : (j : ℕ) (t : Parts) (st : Start) (ls : List Line) → HasNames j t st ls → IsGiven st ls → (n : Naming) →
+    t.naming ≡ Some n →
     (y : ℕ) (c : Binding) (s : ℕ) → IsLined ls y c s → IsBefore n.inc n.count c
 made_before j t st ls names given n at y c s h = let o = names n at in
     subst (λ i. IsBefore i n.count c) (sym o.inc) (subst (λ k. IsBefore (incarnation st ls 1) k c) (sym o.count) (given.older y c s h))
 
 module _ (e k : ℕ) (d : Disk) (t v : Parts) (from : ℕ) (m : Message) (outs : List Effect) (M : Seen) (known : KnowsNames (up k d t M))
     (held : ObjectsAreHeld (up k d t M)) (stands : HasLatest k t M.start M.lines)
-    (there : seen.In (record { from = from; to = k; message = m }) M.sent) (meant : is_meant t m ≡ true) (is : handle k d t from m ≡ Took v outs) where
+    (there : seen.In (record { from = from; to = k; message = m }) M.sent) (meant : is_meant t m ≡ true) (is : handle k d t from m
+        ≡ Took v outs) where
   abbrev acts : List Action
   acts = held.0
 
@@ -319,7 +338,8 @@ module _ (e k : ℕ) (d : Disk) (t v : Parts) (from : ℕ) (m : Message) (outs :
   before : (n : Naming) → t.naming ≡ Some n → (y : ℕ) (c : Binding) (s : ℕ) → IsLined M.lines y c s → IsBefore n.inc n.count c
   before = made_before k t M.start M.lines (known.1.1 k (record { number = k; disk = d; live = Some t }) t its_node refl) known.1.0
 
-  notes : (p : Path) (x : ℕ) (b : Binding) (i g : ℕ) (n : Naming) → t.naming ≡ Some n → AllFewer n (let r = naming.note p x b i g n in r.part)
+  notes : (p : Path) (x : ℕ) (b : Binding) (i g : ℕ) (n : Naming) → t.naming ≡ Some n → AllFewer n
+      (let r = naming.note p x b i g n in r.part)
   notes p x b i g n at = note_fewer p x b i g n
 
   confirming : (p : Path) (grants : Words.Grants) (excluded included : Words.Marks) (n : Naming) → t.naming ≡ Some n →
@@ -343,7 +363,8 @@ module _ (e k : ℕ) (d : Disk) (t v : Parts) (from : ℕ) (m : Message) (outs :
     where
       left : HasLatest k v M.start M.lines
       left p vp =
-          let r = subst (LeftBy AllFewer k d t from fewer_itself notes confirming tells_so hellos) (sym (ap (handle_ask k d t from m) at) ∙ is)
+          let r = subst (LeftBy AllFewer k d t from fewer_itself notes confirming tells_so hellos) (sym (ap
+              (handle_ask k d t from m) at) ∙ is)
           (message_leaves AllFewer k d t from fewer_itself notes confirming tells_so hellos m o off) p vp in
           let old = stands r.0 r.1 in (old.0, fewer_latest M.lines r.0 p r.2 old.1)
 
@@ -370,13 +391,15 @@ module _ (e k : ℕ) (d : Disk) (t v : Parts) (from : ℕ) (m : Message) (outs :
         IsGoodObject (owners_of acts) (Words.is_on (let w = r.part in w.told)) (let w = r.part in w.inc) (let w = r.part in w.count) y o
 
     good_after : Good (naming.bind h.path x include avoid d.names n)
-    good_after = (let b = (held_objects.binds acts (let g = held.1 in g.begun) h.path who x include avoid d.names n (objects n named)).0 in b.objects)
+    good_after = (let b = (held_objects.binds acts (let g = held.1 in g.begun) h.path who x include avoid d.names n
+        (objects n named)).0 in b.objects)
 
     found : is_over h.path n ≡ false → (o : Option Named) → at_number x n.objects ≡ o → BindDue (on_counted x at_it n o)
     found fresh None there_o = same_due
     found fresh (Some q) there_o = bind_due k e t M.start fs plain acts h.path x n named fits (untold_path h.path n fresh)
         (let g = objects n named in g.objects) q there_o d.names include avoid
-        (subst Good ((λ i. cond (fresh i) (void n) (on_counted x at_it n (at_number x n.objects))) ∙ (λ i. on_counted x at_it n (there_o i)))
+        (subst Good ((λ i. cond (fresh i) (void n) (on_counted x at_it n (at_number x n.objects)))
+            ∙ (λ i. on_counted x at_it n (there_o i)))
         good_after x (let r = at_it (record { named = q; count = n.count }) in let w = r.part in w.named)
         (put_same x (let r = at_it (record { named = q; count = n.count }) in let w = r.part in w.named) n.objects))
         M.lines (before n named) stands
@@ -384,7 +407,8 @@ module _ (e k : ℕ) (d : Disk) (t v : Parts) (from : ℕ) (m : Message) (outs :
     bound_due : BindDue (naming.bind h.path x include avoid d.names n)
     bound_due = by (is_over h.path n) refl
       where
-        by : (b : Bool) → is_over h.path n ≡ b → BindDue (cond {A = Served Naming BoundReply} b (void n) (on_counted x at_it n (at_number x n.objects)))
+        by : (b : Bool) → is_over h.path n ≡ b → BindDue (cond {A = Served Naming BoundReply} b (void n) (on_counted x at_it n
+            (at_number x n.objects)))
         by true over = same_due
         by false fresh = found fresh (at_number x n.objects) refl
 
@@ -417,7 +441,8 @@ module _ (e k : ℕ) (d : Disk) (t v : Parts) (from : ℕ) (m : Message) (outs :
 
 -- ---- a restart
 
-recovered_made : (x : ℕ) (d : Pair) (held : List (Uid × ObjectState)) (v : Named) → at_number x (map (named_back d) held) ≡ Some v → v.made ≡ []
+recovered_made : (x : ℕ) (d : Pair) (held : List (Uid × ObjectState)) (v : Named) → at_number x (map (named_back d) held) ≡ Some v →
+    v.made ≡ []
 recovered_made x d [] v is = none_is is
 recovered_made x d (e ∷ es) v is = by (is_eq (nat_cmp x (let u = e.0 in u.num))) is (recovered_made x d es v)
   where
@@ -441,8 +466,11 @@ new_latest j i d st ls n = by (j == 1) refl
 -- ---- in each run
 
 first_latest : (hd : Header) → IsAtStarts hd Latest
-first_latest hd st formed = (tt, λ j n t there live. subst (λ (z : Parts). HasLatest j z st []) (first_up hd st j n t there live)
-    (new_latest j (st.incs j + 1) (disk_by hd st j) st []))
+first_latest hd st formed = (
+  tt,
+  λ j n t there live. subst (λ (z : Parts). HasLatest j z st []) (first_up hd st j n t there live)
+      (new_latest j (st.incs j + 1) (disk_by hd st j) st []),
+)
 
 pub latest_given : (hd : Header) → KeepsGiven hd (λ M. KnowsNames M × ObjectsAreHeld M) Latest
 latest_given hd = nodes.nodes_keep HasLatest Nothing latest_keeps latest_off nothing_stays hd (λ M. KnowsNames M × ObjectsAreHeld M)
@@ -450,8 +478,10 @@ latest_given hd = nodes.nodes_keep HasLatest Nothing latest_keeps latest_off not
     (λ e k d t v from m outs M known h there meant is.
     let here : (let S = up k d t M in S.nodes k) ≡ Some (record { number = k; disk = d; live = Some t }) =
     λ i. cond (same_number k i) (Some (record { number = k; disk = d; live = Some t })) (M.nodes k) in (
-      owns e k d t v from m outs M.start M.lines known.0.1.0 (known.0.1.1 k (record { number = k; disk = d; live = Some t }) t here refl) meant is,
-      asked e k d t v from m outs M known.0 known.1 (h.1 k (record { number = k; disk = d; live = Some t }) t here refl) there meant is (asks m) refl,
+      owns e k d t v from m outs M.start M.lines known.0.1.0 (known.0.1.1 k
+          (record { number = k; disk = d; live = Some t }) t here refl) meant is,
+      asked e k d t v from m outs M known.0 known.1 (h.1 k (record { number = k; disk = d; live = Some t }) t here refl) there meant is
+          (asks m) refl,
     ))
     (λ e k d M known h. any_due k (parts_in k (d.inc + 1) d) M.start e (Words.restart_outs hd k (d.inc + 1) d)
     (λ ls. new_latest k (d.inc + 1) d M.start ls) M.lines)

@@ -1,22 +1,21 @@
 -- A message that isn't a Bind leaves naming's incarnation, its count and its turns, and of its bindings what is known.
 use Rattle.arj_law_parts.proofs.Words
-use Words.{◌≡◌, ◌∙◌, ◌==◌, ◌||◌, ◌++◌, ◌&&◌, ◌≤◌, ◌+◌, not, ℕ, Bool, true, false, cond, filter, map, List, [], ◌∷◌, Option, Some, None}
+use Words.{◌≡◌, ◌∙◌, ◌==◌, ◌||◌, not, ℕ, Bool, true, false, cond, List, [], ◌∷◌, Option, Some, None}
 use Words.{refl, sym, ap, subst}
-use Words.{⊤, arith, AllByRecursion, is_some, option_map, Uid, Ask, Asked, Binding, ConfirmedReply, End, Head, Message, ObjectState, Path}
-use Words.{RecordedReply, asks, entry, is_on, lower_row, object, Reply, actor, answers, asked_by, last_end, response, top_of, heard}
+use Words.{⊤, arith, is_some, option_map, Uid, Ask, Asked, Binding, ConfirmedReply, End, Head, Message, ObjectState, Path}
+use Words.{RecordedReply, entry, is_on, lower_row, object, Reply, actor, answers, last_end, top_of, heard}
 use Words.{Grants}
 use Words.{Marks, checked, confirm, confirm_entries, confirm_new, confirms, entries_after, has_all, lock_all, lock_in, prepared_by}
 use Words.{wanted}
-use Words.{Coord, Already, Disk, Do, Effect, InDoubt, Look, Old, Pair, Prep, Prepare, Ready, Say, Send, Did, Served, did_nothing, held_at}
-use Words.{holder_of, is_prepared, prepare_answer, reply, void, acked, answer_query, Made, Named, end_named, hello_named, in_use}
+use Words.{Coord, Already, Disk, Do, Effect, InDoubt, Look, Old, Pair, Prep, Ready, Did, Served, did_nothing, held_at}
+use Words.{holder_of, is_prepared, prepare_answer, reply, void, acked, Made, Named, end_named, hello_named, in_use}
 use Words.{is_lowered}
 use Words.{locked, lowered, note_made, note_named, note_other, Naming, is_over, note, on_named, taken_end, told_new, Handled, Parts, Took}
-use Words.{Void, ack_told, by_reply, coord_heard, handle, handle_answer, handle_ask, handle_ends, handle_other, holders, if_naming}
-use Words.{is_earlier, load_by, load_held, naming_hello, naming_told, prepare_by, query_about, sends_answer, serve, store_told}
+use Words.{Void, by_reply, coord_heard, handle_answer, handle_ask, handle_ends, handle_other, if_naming}
+use Words.{load_by, load_held, naming_hello, naming_told, prepare_by, sends_answer, serve}
 use Words.{with_coord}
 use Words.{with_naming, with_server, at_number, at_uid, binding_eq, each, put_number, put_same, put_other, is_binding, is_eq, nat_cmp}
 use Words.ask
-use Words.body
 use Words.confirmed
 use Words.ending
 use Words.loaded
@@ -24,7 +23,6 @@ use Words.message
 use Words.mode
 use Words.prepared
 use Words.recorded
-use Words.role
 use Words.what
 use Words.naming
 use Words.server
@@ -86,7 +84,8 @@ noted_turn : (x : ℕ) (top : Uid) (b : Binding) (i : ℕ) (o : Named) → (let 
 noted_turn x top b i o = by (is_binding b o.recorded)
   where
     made : (m : Made) (c : Bool) → (let v = (cond {A = Served Named RecordedReply} c (reply o recorded.Yes)
-        (record { part = lowered x top (in_use top m i o); outs = Words.lower_lines x top o; reply = Some recorded.Yes })).part in v.turn) ≡ o.turn
+        (record { part = lowered x top (in_use top m i o); outs = Words.lower_lines x top o; reply = Some recorded.Yes })).part in v.turn)
+            ≡ o.turn
     made m true = refl
     made m false = lowered_turn x top (in_use top m i o)
 

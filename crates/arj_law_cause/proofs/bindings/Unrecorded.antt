@@ -1,14 +1,22 @@
 -- Bindings that aren't recorded yet, of tops that have the write lock on the entry: no call of naming but a Bind makes one.
 use Rattle.arj_law_parts.proofs.Words
-use Words.{◌≡◌, ◌≢◌, ◌⊎◌, ◌≤◌, ◌∙◌, ◌==◌, ◌||◌, ◌&&◌, not, ℕ, Bool, true, false, cond, List, [], ◌∷◌, Option, Some, None, refl, sym, ap, subst}
-use Words.{inl, inr, ⊎_elim, arith, is_some, nat_le, and_parts, Contains, In, in_from, in_to, in_filter, in_find, in_map, grant_each, came_by, CameBy}
-use Words.{stayed, passed_on, passing, heir_is, Uid, Path, Row, Mode, Read, Exclude, Write, mode_code, stronger, before_last, last_uid, front, is_on}
-use Words.{is_heir, is_held_by, is_row_of, strengthened, uid_eq, uid_is, uid_same, grant_row, lower_row, drop_rows, pass_rows, is_granted, rows_asked}
-use Words.{Binding, ConfirmedReply, End, ObjectState, RecordedReply, entry, top_of, Grants, Marks, checked, confirm, confirm_entries, confirm_new}
-use Words.{confirms, entries_after, has_all, lock_all, lock_in, prepared_by, wanted, Did, Pair, Prep, Ready, Already, Old, InDoubt, Served, did_nothing}
-use Words.{is_prepared, prepare_answer, reply, void, Made, Named, end_named, entry_row, hello_named, in_use, is_lowered, locked, lower_lines, lowered}
-use Words.{note_made, note_named, note_other, Naming, hello, is_over, note, on_named, taken_end, told_new, at_number, at_uid, binding_eq, each, put_number}
-use Words.{put_same, put_other, put_uid, without_uid, is_binding, one_or_two}
+use Words.{◌≡◌, ◌≢◌, ◌⊎◌, ◌≤◌, ◌∙◌, ◌==◌, ◌||◌, ◌&&◌, not, ℕ, Bool, true, false, cond, List, [], ◌∷◌, Option, Some, None, refl, sym, ap}
+use Words.{subst}
+use Words.{inl, inr, ⊎_elim, arith, is_some, and_parts, Contains, In, in_from, in_to, in_filter, in_find, in_map, grant_each, came_by}
+use Words.{CameBy}
+use Words.{stayed, passed_on, passing, heir_is, Uid, Path, Row, Mode, Read, Exclude, Write, mode_code, stronger, before_last, last_uid}
+use Words.{is_on}
+use Words.{is_heir, is_held_by, is_row_of, strengthened, uid_eq, uid_is, uid_same, grant_row, lower_row, drop_rows, pass_rows, is_granted}
+use Words.{rows_asked}
+use Words.{Binding, ConfirmedReply, End, ObjectState, RecordedReply, entry, top_of, Grants, Marks, checked, confirm, confirm_entries}
+use Words.{confirm_new}
+use Words.{confirms, entries_after, has_all, lock_all, lock_in, prepared_by, wanted, Did, Pair, Prep, Ready, Already, Old, InDoubt}
+use Words.{Served, did_nothing}
+use Words.{is_prepared, prepare_answer, reply, void, Made, Named, end_named, entry_row, hello_named, in_use, is_lowered, locked}
+use Words.{lower_lines, lowered}
+use Words.{note_made, note_named, note_other, Naming, hello, is_over, note, on_named, taken_end, told_new, at_number, at_uid, binding_eq}
+use Words.{put_number}
+use Words.{put_same, put_other, put_uid, is_binding, one_or_two}
 use Words.confirmed
 use Words.ending
 use Words.mode
@@ -59,7 +67,8 @@ asked_less u new rows other = by (is_granted new.object (last_uid new.holder) ne
       where
         one : (last_uid new.holder ≢ u) ⊎ (mode_code new.mode ≤ 1) → HasLock u 2 rows
         one (inl apart) = absurd (apart (sym (ap (λ (q : Row). last_uid q.holder) same) ∙ last))
-        one (inr low) = let high : 2 ≤ mode_code new.mode = subst (λ (q : Row). 2 ≤ mode_code q.mode) same strong in absurd (omega (arith, high, low))
+        one (inr low) = let high : 2 ≤ mode_code new.mode = subst (λ (q : Row). 2 ≤ mode_code q.mode) same strong in absurd (omega
+            (arith, high, low))
 
     by : (b : Bool) → HasLock u 2 (cond b rows (grant_row new rows)) → HasLock u 2 rows
     by true h = h
@@ -106,19 +115,23 @@ pass_less u action rows elsewhere h = by (came_by action rows h.0 (in_from h.0 (
     kept old c None none same =
         (old, c, ap (λ (q : Row). last_uid q.holder) (sym same) ∙ h.2, subst (λ (q : Row). 2 ≤ mode_code q.mode) same h.3)
     kept old c (Some s) some same =
-        let f = in_find (λ (row : Row). is_row_of old.object action row && is_heir (before_last row.holder) (last_uid old.holder)) s rows some in
+        let f = in_find (λ (row : Row). is_row_of old.object action row && is_heir (before_last row.holder)
+            (last_uid old.holder)) s rows some in
         let both = and_parts (is_row_of old.object action s) (is_heir (before_last s.holder) (last_uid old.holder)) f.1 in
         let heir = its_heir (before_last s.holder) (last_uid old.holder) both.1 in
-        absurd (elsewhere s (in_to s rows f.0) (and_parts (uid_eq s.object old.object) (uid_eq (last_uid s.holder) action) both.0).1 heir.0 heir.1
+        absurd (elsewhere s (in_to s rows f.0) (and_parts (uid_eq s.object old.object) (uid_eq
+            (last_uid s.holder) action) both.0).1 heir.0 heir.1
         (heir.2 ∙ ap (λ (q : Row). last_uid q.holder) (sym same) ∙ h.2))
 
     by : CameBy action rows h.0 → HasLock u 2 rows
     by (stayed old c off same) = kept old c (passing action old.object (last_uid old.holder) rows) refl same
     by (passed_on old c own heir parent none same) =
-        absurd (elsewhere old c own heir parent (sym (heir_is old.holder heir parent).0 ∙ ap (λ (q : Row). last_uid q.holder) (sym same) ∙ h.2))
+        absurd (elsewhere old c own heir parent (sym (heir_is old.holder heir parent).0 ∙ ap (λ (q : Row). last_uid q.holder) (sym same)
+            ∙ h.2))
 
 -- a top is nobody's heir
-pub top_elsewhere : (owner : Owners) (u action : Uid) (rows : List Row) → ((r : Row) → Contains rows r → IsHolder owner r.holder) → IsTop owner u →
+pub top_elsewhere : (owner : Owners) (u action : Uid) (rows : List Row) → ((r : Row) → Contains rows r → IsHolder owner r.holder) →
+    IsTop owner u →
     PassesElsewhere u action rows
 top_elsewhere owner u action rows holders top r there own heir parent same = by (holders r there)
   where
@@ -226,7 +239,8 @@ note_fewer p x b i g n = by (is_over p n || not (is_some (at_number x n.objects)
 
 locks_fewer : (xs : List ℕ) (p : Path) (n : Naming) → AllFewer n (lock_all xs p n).part
 locks_fewer [] p n = fewer_itself n
-locks_fewer (x ∷ xs) p n = fewer_on n (lock_in x p n (at_number x n.objects)).part (lock_all (x ∷ xs) p n).part (one (at_number x n.objects) refl)
+locks_fewer (x ∷ xs) p n = fewer_on n (lock_in x p n (at_number x n.objects)).part (lock_all (x ∷ xs) p n).part (one
+    (at_number x n.objects) refl)
     (locks_fewer xs p (lock_in x p n (at_number x n.objects)).part)
   where
     one : (o : Option Named) → at_number x n.objects ≡ o → AllFewer n (lock_in x p n o).part
@@ -239,7 +253,8 @@ pub confirm_fewer : (p : Path) (grants : Grants) (excluded included : Marks) (d 
 confirm_fewer p grants excluded included d n =
     by (is_over p n || not (has_all grants n)) (is_on n.confirmed (top_of p) || is_prepared (top_of p) d)
   where
-    answered : (states : List ObjectState) (t : Did Naming) (a : Prep) → AllFewer n t.part → AllFewer n (prepared_by (top_of p) states t a).part
+    answered : (states : List ObjectState) (t : Did Naming) (a : Prep) → AllFewer n t.part →
+        AllFewer n (prepared_by (top_of p) states t a).part
     answered states t Ready s = s
     answered states t (Already u) s = s
     answered states t (Old u v) s = s

@@ -1,14 +1,17 @@
 -- On one node what a call, an include or a commit asks is answered in its own event, unless a request of it is void.
 use Rattle.arj_law_parts.proofs.Words
-use Words.{◌≡◌, ◌∙◌, ◌+◌, ◌-◌, ◌==◌, ◌&&◌, ◌||◌, not, ℕ, Bool, true, false, cond, List, [], ◌∷◌, ◌++◌, refl, sym, ap, subst, arith, nat_tests}
-use Words.{Option, Some, None, ◌⊎◌, inl, inr, ⊎_elim, AllByRecursion, and_parts, eqb-true, nat_le, in_right, Body, Header, Line, Uid}
+use Words.{◌≡◌, ◌∙◌, ◌+◌, ◌-◌, ◌==◌, ◌&&◌, ◌||◌, not, ℕ, Bool, true, false, cond, List, [], ◌∷◌, refl, sym, ap, subst, arith, nat_tests}
+use Words.{Option, Some, None, ◌⊎◌, inl, inr, ⊎_elim, AllByRecursion, and_parts, eqb-true, nat_le, Body, Header, Line, Uid}
 use Words.{actor, Steps, next_node, Machine, left_of, Calling, Committing, Idle, Coord}
-use Words.{Doing, Now, doing_of, has, Did, Do, Effect, Say, Send, Parts, Ran, with_coord}
+use Words.{Doing, Now, doing_of, has, Did, Say, Parts, Ran, with_coord}
 use Words.{whole, Input, Node, acts, is_waiting_now, at_place, place_other, set_place, World, Seen, see}
-use Words.{IsOvertaken, IsSaid, step, steps, step_node, step_with, done_step, halted_at, armed, disarmed, cut, count_works, at_number, Arm, nat_lt, refusal}
-use Words.{bodies, frame_kind, in_to, length, numbered, sent_line, Branch, Intent}
-use Words.{Label, name, Step, append-nil, branch_named, branch_numbered, branch_of, coord_did, counted, first_reason, giving, happens, is_empty, is_own, lacks_labels}
-use Words.{limited, no_labels, number_of, reasons, refusal_at, refusal_up, run_unless, step_of, step_unless, step_up, uid_at, moved, world_by, Move}
+use Words.{IsOvertaken, IsSaid, step, steps, step_node, step_with, done_step, halted_at, armed, disarmed, cut, count_works, at_number}
+use Words.{Arm, nat_lt, refusal}
+use Words.{bodies, Branch, Intent}
+use Words.{Label, name, Step, branch_named, branch_numbered, branch_of, coord_did, counted, first_reason, giving, happens, is_empty}
+use Words.{is_own, lacks_labels}
+use Words.{limited, no_labels, number_of, reasons, refusal_at, refusal_up, run_unless, step_of, step_unless, step_up, uid_at, moved}
+use Words.{world_by, Move}
 use Words.{Event, is_known, was_given, call_reasons, commit_reasons, include_reasons, is_some, on_branch, refused_by, uid_eq, uid_same}
 use Words.{is_node as world_is, node_of as world_node}
 use Words.list as members
@@ -36,7 +39,7 @@ use Rattle.arj_law_runs.proofs.Terms.{Act, acts as all_acts, AreDistinct, has_ac
 use Rattle.arj_law_runs.proofs.journal.Models.{its_sound}
 use Rattle.arj_model.specs.Actions.{Begun, acts_after, acts_from, begun_of, numbered as numbered_acts}
 use Rattle.arj_model.specs.Past.{Past, block, next}
-use Rattle.arj_model.specs.Refusals.{is_waiting, waits_for}
+use Rattle.arj_model.specs.Refusals.{is_waiting}
 use Rattle.arj_law_parts.proofs.moves.Happens.{keeps_asked}
 use Rattle.arj_law_runs.proofs.calls.WholeRuns.{few_before}
 use Rattle.arj_law_runs.specs.calls.Bindings.{HasFewBindings}
@@ -96,14 +99,16 @@ steps_left n i w k x = by (at_place n w.nodes) refl
         IsLeft n i w k x
     down a y there is at = ⊎_elim (λ p. inr (inl (ap (λ (z : Node). z.live) (sym p.1) ∙ is))) (λ o. inl o) (placed a y there at)
 
-    with_arm : (a : Node) → at_place n w.nodes ≡ Some a → (o : Option Arm) → at_place k (step_with n a (step w.header a i) w o).nodes ≡ Some x →
+    with_arm : (a : Node) → at_place n w.nodes ≡ Some a → (o : Option Arm) → at_place k (step_with n a (step w.header a i) w o).nodes
+        ≡ Some x →
         IsLeft n i w k x
     with_arm a there None at = done a there at
     with_arm a there (Some arm) at = one (nat_lt (count_works (step w.header a i).halting) arm.works) at
       where
         one : (b : Bool) → at_place k (cond b (done_step n (step w.header a i)
             (armed n (record arm { works = arm.works - count_works (step w.header a i).halting }) w))
-            (halted_at n a (cut (arm.works - 1) arm.how (step w.header a i).halting a.disk) (disarmed n w))).nodes ≡ Some x → IsLeft n i w k x
+            (halted_at n a (cut (arm.works - 1) arm.how (step w.header a i).halting a.disk) (disarmed n w))).nodes ≡ Some x →
+                IsLeft n i w k x
         one true at = done a there at
         one false at = down a (record a {
           disk = (let c = cut (arm.works - 1) arm.how (step w.header a i).halting a.disk in c.disk);
@@ -117,7 +122,8 @@ steps_left n i w k x = by (at_place n w.nodes) refl
 -- ---- an event on one node
 
 -- a commit that waits waits for some node
-some_left : (M : Seen) → IsGood M → (k : ℕ) (n : Node) (t : Parts) → M.nodes k ≡ Some n → n.live ≡ Some t → (u : Uid) (q : Doing) (m : Machine) →
+some_left : (M : Seen) → IsGood M → (k : ℕ) (n : Node) (t : Parts) → M.nodes k ≡ Some n → n.live ≡ Some t →
+    (u : Uid) (q : Doing) (m : Machine) →
     doing_of u t.coord ≡ Some q → q.now ≡ Committing m → left_of m ≡ [] → ⊥
 some_left M good k n t found live u q m does now none =
     let x = (its_up good.0 M good.1 k n t found live).numbered u q does in
@@ -159,10 +165,12 @@ module _ (hd : Header) (form : HeaderInForm hd) (front : Run hd) (m : Move) (p :
   first_of = subst (λ n. (nat_le 1 1 && nat_le 1 n) ≡ true) (sym alone) refl
 
   place_of : (k : ℕ) (n : Node) → at_place k (world_by hd front).nodes ≡ Some n → Of hd k
-  place_of k n there = sym (ties.node_so hd form p (world_by hd front) s.all k) ∙ ties.node_there hd form p (world_by hd front) s.all k n there
+  place_of k n there = sym (ties.node_so hd form p (world_by hd front) s.all k) ∙ ties.node_there hd form p
+      (world_by hd front) s.all k n there
 
   -- whom a call at the end waits for is a node
-  next_of : (k : ℕ) (x : Node) (z : Parts) (a : Uid) (d : Doing) (c : Steps) → at_place k (moved m (world_by hd front)).nodes ≡ Some x → x.live ≡ Some z →
+  next_of : (k : ℕ) (x : Node) (z : Parts) (a : Uid) (d : Doing) (c : Steps) → at_place k (moved m (world_by hd front)).nodes ≡ Some x →
+      x.live ≡ Some z →
       doing_of a z.coord ≡ Some d → d.now ≡ Calling c → Of hd (next_node c)
   next_of k x z a d c there live does now =
       let known = held_on.holds.0.0.0.0.1 in
@@ -173,7 +181,8 @@ module _ (hd : Header) (form : HeaderInForm hd) (front : Run hd) (m : Move) (p :
       node_of (IsNode hd) first_of c.goal c.at step_of.at
 
   -- and so is each node that a commit waits for, of which there is one
-  left_at : (k : ℕ) (x : Node) (z : Parts) (a : Uid) (d : Doing) (c : Machine) → at_place k (moved m (world_by hd front)).nodes ≡ Some x → x.live ≡ Some z →
+  left_at : (k : ℕ) (x : Node) (z : Parts) (a : Uid) (d : Doing) (c : Machine) → at_place k (moved m (world_by hd front)).nodes ≡ Some x →
+      x.live ≡ Some z →
       doing_of a z.coord ≡ Some d → d.now ≡ Committing c → (j : ℕ) × (has (left_of c) j ≡ true) × Of hd j
   left_at k x z a d c there live does now = by (left_of c) refl of_left
     where
@@ -189,7 +198,8 @@ module _ (hd : Header) (form : HeaderInForm hd) (front : Run hd) (m : Move) (p :
       same j = grind (arith, nat_tests)
 
       by : (ns : List ℕ) → left_of c ≡ ns → AllByRecursion (IsNode hd) ns → (j : ℕ) × (has (left_of c) j ≡ true) × Of hd j
-      by [] none all = absurd (some_left (see held_on.sent (moved m (world_by hd front))) held_on.holds.1 k x z there live a d c does now none)
+      by [] none all = absurd (some_left (see held_on.sent (moved m (world_by hd front))) held_on.holds.1 k x z there live a d c does now
+          none)
       by (j ∷ ns) is all = (j, ap (λ xs. has xs j) is ∙ (λ i. same j i || has ns j), all.0)
 
   -- the action waited before
@@ -207,7 +217,8 @@ module _ (hd : Header) (form : HeaderInForm hd) (front : Run hd) (m : Move) (p :
   -- whoever is overtaken behind the step that an input makes of a node waited before
   abbrev pub NoneOvertaken : Input → ℕ → Node → Parts → Type 0
   NoneOvertaken i n b y = (there : at_place n (world_by hd front).nodes ≡ Some b) (live : b.live ≡ Some y) (home : IsHome y.coord) →
-      NoneOver hd (world_by hd front) latest few n b y there live home (whole n (with_coord y (acts i (let d = b.disk in d.intents) y.coord).part)
+      NoneOver hd (world_by hd front) latest few n b y there live home (whole n (with_coord y (acts i
+          (let d = b.disk in d.intents) y.coord).part)
       (acts i (let d = b.disk in d.intents) y.coord).outs b.disk)
 
   -- ---- an input that asks something of the action with this label
@@ -220,7 +231,8 @@ module _ (hd : Header) (form : HeaderInForm hd) (front : Run hd) (m : Move) (p :
       (branch : (c : Coord) → refusal_up hd i c ≡ None → (br : Branch) × (branch_named l c ≡ Some br))
       (acts_so : (c : Coord) (intents : List (Uid × Intent)) (br : Branch) (b : Doing) → branch_named l c ≡ Some br →
       Acts (actor br.path) b c (acts i intents c))
-      (none_so : (b : Node) (y : Parts) (br : Branch) → branch_named l y.coord ≡ Some br → AsksNode hd i → refusal_up hd i y.coord ≡ None → n ≡ 1 →
+      (none_so : (b : Node) (y : Parts) (br : Branch) → branch_named l y.coord ≡ Some br → AsksNode hd i →
+          refusal_up hd i y.coord ≡ None → n ≡ 1 →
       NoneOvertaken i n b y) where
     -- what the event leaves at a place
     abbrev Behind : ℕ → Node → Type 0
@@ -248,7 +260,8 @@ module _ (hd : Header) (form : HeaderInForm hd) (front : Run hd) (m : Move) (p :
             full : (b : Bool) → (happens (event_of m) arm t).full ≡ b → Behind k x
             full true met = stepped (ap (λ (z : World). z.nodes) (is ∙ (λ j. record (cond (met j) (world_says (body.Limit which.Frames ∷ [])
                 (record (happens (event_of m) arm t) { over = true })) (happens (event_of m) arm t)) { arms = [] })))
-            full false fits = stepped (ap (λ (z : World). z.nodes) (is ∙ (λ j. record (cond (fits j) (world_says (body.Limit which.Frames ∷ [])
+            full false fits = stepped (ap (λ (z : World). z.nodes) (is ∙ (λ j. record (cond (fits j) (world_says
+                (body.Limit which.Frames ∷ [])
                 (record (happens (event_of m) arm t) { over = true })) (happens (event_of m) arm t)) { arms = [] })))
 
         labels : first_reason (reasons (event_of m) u) ≡ None → (b : Bool) → lacks_labels (giving (event_of m) u) u ≡ b → Behind k x
@@ -258,12 +271,14 @@ module _ (hd : Header) (form : HeaderInForm hd) (front : Run hd) (m : Move) (p :
             ∙ (λ j. cond (has_one j) (no_labels u) (limited (happens (event_of m) arm t)))))
 
         by : (o : Option ℕ) → first_reason (reasons (event_of m) u) ≡ o → Behind k x
-        by (Some c) refused = old (world_says (body.Refused c ∷ []) t) (now_is (world_says (body.Refused c ∷ []) t) (ap (run_unless (event_of m) arm u) refused)) refl
+        by (Some c) refused = old (world_says (body.Refused c ∷ []) t) (now_is (world_says (body.Refused c ∷ []) t) (ap (run_unless
+            (event_of m) arm u) refused)) refl
         by None none = labels none (lacks_labels (giving (event_of m) u) u) refl
 
     -- ---- who waits behind it
 
-    module _ (k : ℕ) (x : Node) (z : Parts) (at : at_place k (moved m (world_by hd front)).nodes ≡ Some x) (live : x.live ≡ Some z) (a : Uid) (d : Doing)
+    module _ (k : ℕ) (x : Node) (z : Parts) (at : at_place k (moved m (world_by hd front)).nodes ≡ Some x) (live : x.live
+        ≡ Some z) (a : Uid) (d : Doing)
         (does : doing_of a z.coord ≡ Some d) (waits : is_waiting_now d.now ≡ true) where
       abbrev Found : Type 0
       Found = WaitedAt a
@@ -273,7 +288,8 @@ module _ (hd : Header) (form : HeaderInForm hd) (front : Run hd) (m : Move) (p :
 
       -- a step of the coordinator
       asked_here : (b : Node) (y : Parts) → k ≡ n → at_place n w.nodes ≡ Some b → b.live ≡ Some y → refusal_up hd i y.coord ≡ None →
-          first_reason (reasons (event_of m) u) ≡ None → (q : Ran) → q ≡ whole n (with_coord y (acts i (let e = b.disk in e.intents) y.coord).part)
+          first_reason (reasons (event_of m) u) ≡ None → (q : Ran) → q ≡ whole n (with_coord y (acts i
+              (let e = b.disk in e.intents) y.coord).part)
           (acts i (let e = b.disk in e.intents) y.coord).outs b.disk → z ≡ (let h = q.here in h.parts) → Found
       asked_here b y same there up_it free none q is z_is = by d.now refl
         where
@@ -298,7 +314,8 @@ module _ (hd : Header) (form : HeaderInForm hd) (front : Run hd) (m : Move) (p :
           its_branch = (λ j. cond (own j) (at_place found.0 y.coord.tree.branches) None) ∙ found.2
 
           actor_is : actor br.0.path ≡ uid_at found.0 y.coord
-          actor_is = (good_coord held.holds.1.0 (see held.sent w) held.holds.1.1 n b y there up_it).tree.lists.places (uid_at found.0 y.coord) br.0 its_branch
+          actor_is = (good_coord held.holds.1.0 (see held.sent w) held.holds.1.1 n b y there up_it).tree.lists.places
+              (uid_at found.0 y.coord) br.0 its_branch
 
           doing : (e : Doing) × (at_place found.0 y.coord.doings ≡ Some e)
           doing =
@@ -310,7 +327,8 @@ module _ (hd : Header) (form : HeaderInForm hd) (front : Run hd) (m : Move) (p :
           does_so = ap (λ g. doing_of g y.coord) actor_is ∙ (λ j. cond (own j) (at_place found.0 y.coord.doings) None) ∙ doing.1
 
           walks : Walks (P hd form) w.event n did.outs (Up (P hd form) n (with_coord y did.part)) b.disk (see held.sent w)
-          walks = (let g = keeps hd form in g.act w.event n b.disk y i (see held.sent w) about (asks_it none) free (here hd form w held n b y there up_it))
+          walks = (let g = keeps hd form in g.act w.event n b.disk y i (see held.sent w) about (asks_it none) free
+              (here hd form w held n b y there up_it))
 
           only : (j : ℕ) → Of hd j → j ≡ n
           only j of = one_node j of ∙ sym (one_node n (place_of n b there))
@@ -318,7 +336,8 @@ module _ (hd : Header) (form : HeaderInForm hd) (front : Run hd) (m : Move) (p :
           moves : Moves 0 (let g = doing.0 in g.now) (actor br.0.path) y.coord did.part did.outs
           moves = acts_so y.coord (let e = b.disk in e.intents) br.0 doing.0 br.1
 
-          its_does : doing_of a (let g = whole n (with_coord y did.part) did.outs b.disk in let h = g.here in let f = h.parts in f.coord) ≡ Some d
+          its_does : doing_of a (let g = whole n (with_coord y did.part) did.outs b.disk in let h = g.here in let f = h.parts in f.coord)
+              ≡ Some d
           its_does = ap (λ (g : Ran). let h = g.here in let f = h.parts in doing_of a f.coord) (sym is)
               ∙ ap (λ (g : Parts). doing_of a g.coord) (sym z_is) ∙ does
 
@@ -330,16 +349,19 @@ module _ (hd : Header) (form : HeaderInForm hd) (front : Run hd) (m : Move) (p :
 
           over : (c : Steps) → d.now ≡ Calling c →
               IsOvertaken (λ g. IsSaid w.lines g ⊎ members.In (Say g) (whole n (with_coord y did.part) did.outs b.disk).outs) c → WaitedAt a
-          over c now o = back (none_so b y br.0 br.1 (asks_it none) free first_node there up_it (home_at n b y there up_it) a d c its_does now o)
+          over c now o = back (none_so b y br.0 br.1 (asks_it none) free first_node there up_it
+              (home_at n b y there up_it) a d c its_does now o)
 
           by : (g : Now) → d.now ≡ g → Found
           by Idle now = let no_way : false ≡ true = ap is_waiting_now (sym now) ∙ waits in absurd (cc no_way)
           by (Calling c) now = ⊎_elim (over c now) back
-              (calls_left hd form w held n b y there up_it did (actor br.0.path) doing.0 does_so moves w.event walks only (place_of n b there)
+              (calls_left hd form w held n b y there up_it did (actor br.0.path) doing.0 does_so moves w.event walks only
+                  (place_of n b there)
               a d c its_does now (next_of k x z a d c at live does now))
           by (Committing c) now =
               let j = left_at k x z a d c at live does now in
-              back (commits_left hd form w held n b y there up_it did (actor br.0.path) doing.0 does_so moves w.event walks only (place_of n b there)
+              back (commits_left hd form w held n b y there up_it did (actor br.0.path) doing.0 does_so moves w.event walks only
+                  (place_of n b there)
               a d c j.0 its_does now j.1 j.2)
 
       -- the node's step
@@ -356,7 +378,8 @@ module _ (hd : Header) (form : HeaderInForm hd) (front : Run hd) (m : Move) (p :
           some_parts : (e y : Parts) → Some e ≡ Some y → e ≡ y
           some_parts e y is = cc is
 
-          up_one : (y : Parts) → (let b = h.node in b.live) ≡ Some y → refusal_up w.header i y.coord ≡ None → x ≡ (step_up i h.node y).after → Found
+          up_one : (y : Parts) → (let b = h.node in b.live) ≡ Some y → refusal_up w.header i y.coord ≡ None →
+              x ≡ (step_up i h.node y).after → Found
           up_one y up_it free is =
               asked_here h.node y h.same h.there up_it (subst (λ g. refusal_up g i y.coord ≡ None) header free) none
               (whole n (with_coord y did.part) did.outs b.disk) refl
@@ -375,7 +398,8 @@ module _ (hd : Header) (form : HeaderInForm hd) (front : Run hd) (m : Move) (p :
               q : Ran
               q = whole n (with_coord y did.part) did.outs b.disk
 
-          live_by : (o : Option Parts) → (let b = h.node in b.live) ≡ o → refusal_at w.header i o ≡ None → x ≡ (step_of w.header i h.node o).after → Found
+          live_by : (o : Option Parts) → (let b = h.node in b.live) ≡ o → refusal_at w.header i o ≡ None →
+              x ≡ (step_of w.header i h.node o).after → Found
           live_by None down free is = stays (is ∙ down_is w.header h.node)
           live_by (Some y) up_it free is = up_one y up_it free is
 
@@ -415,9 +439,11 @@ one_act : (xs : List Act) (a b : Act) → AreDistinct xs → members.In a xs →
 one_act [] a b apart i j same = absurd i
 one_act (x ∷ xs) a b apart (inl one) (inl two) same = sym one ∙ two
 one_act (x ∷ xs) a b apart (inl one) (inr j) same =
-    let no_way : true ≡ false = sym (there_on xs b j) ∙ ap (has_act xs) (sym same ∙ ap (λ (z : Act). z.uid) (sym one)) ∙ apart.2 in absurd (cc no_way)
+    let no_way : true ≡ false = sym (there_on xs b j) ∙ ap (has_act xs) (sym same ∙ ap (λ (z : Act). z.uid) (sym one))
+        ∙ apart.2 in absurd (cc no_way)
 one_act (x ∷ xs) a b apart (inr i) (inl two) same =
-    let no_way : true ≡ false = sym (there_on xs a i) ∙ ap (has_act xs) (same ∙ ap (λ (z : Act). z.uid) (sym two)) ∙ apart.2 in absurd (cc no_way)
+    let no_way : true ≡ false = sym (there_on xs a i) ∙ ap (has_act xs) (same ∙ ap (λ (z : Act). z.uid) (sym two))
+        ∙ apart.2 in absurd (cc no_way)
 one_act (x ∷ xs) a b apart (inr i) (inr j) same = one_act xs a b apart.3 i j same
 
 -- an action that isn't there is refused
@@ -426,7 +452,8 @@ named_branch : (r : Branch → Coord → List (ℕ × Bool)) (c : Coord) (o : Op
 named_branch r c None free = let no_way : ◌≡◌ {A = Option ℕ} (Some 6) None = free in absurd (cc no_way)
 named_branch r c (Some br) free = (br, refl)
 
-module _ (hd : Header) (form : HeaderInForm hd) (front : Run hd) (m : Move) (p : Past) (bodies : List Body) (s : Kept hd form p (world_by hd front))
+module _ (hd : Header) (form : HeaderInForm hd) (front : Run hd) (m : Move) (p : Past) (bodies : List Body) (s : Kept hd form p
+    (world_by hd front))
     (on : (let x = world_by hd front in x.over) ≡ false) (after : Kept hd form (next p (event_of m) bodies) (moved m (world_by hd front)))
     (few : HasFewBindings (moved m (world_by hd front)).lines) where
   few_before_it : HasFewBindings (world_by hd front).lines
@@ -441,22 +468,27 @@ module _ (hd : Header) (form : HeaderInForm hd) (front : Run hd) (m : Move) (p :
       (world_node l (counted (record (world_by hd front) { arms = m.falls })))
       (ap (λ e. happens e (let g = m.asked in g.arm) (counted (record (world_by hd front) { arms = m.falls }))) is)
       (λ a z. refl) (λ h a. refl) refl (λ none. tt) (λ c free. named_branch (call_reasons hd x o) c (branch_named l c) free)
-      (λ c intents br b found. subst (λ g. Acts (actor br.path) b c (on_branch (λ f. asking_of.call f.path x o c) c g)) (sym found) (called br x o b c))
+      (λ c intents br b found. subst (λ g. Acts (actor br.path) b c (on_branch (λ f. asking_of.call f.path x o c) c g)) (sym found)
+          (called br x o b c))
       (λ b y br found asks free one there live home. call_over hd (world_by hd front) (latest hd form front m p s on few_before_it alone)
-      few_before_it (world_node l (counted (record (world_by hd front) { arms = m.falls }))) b y there live home l br found one x o asks free)
+      few_before_it (world_node l (counted (record (world_by hd front) { arms = m.falls }))) b y there live home l br found one x o asks
+          free)
   found_by alone (event.Include l x n) is name_is asks_it = found_so hd form front m p s on few_before_it alone (input.Include l x n) l
       (world_node l (counted (record (world_by hd front) { arms = m.falls })))
       (ap (λ e. happens e (let g = m.asked in g.arm) (counted (record (world_by hd front) { arms = m.falls }))) is)
       (λ a z. refl) (λ h a. refl) refl
-      (λ none. sym (ties.node_so hd form p (world_by hd front) s.all n) ∙ not_not (world_is n (record (world_by hd front) { arms = m.falls }))
+      (λ none. sym (ties.node_so hd form p (world_by hd front) s.all n) ∙ not_not (world_is n (record
+          (world_by hd front) { arms = m.falls }))
       (first_not 1 (not (world_is n (record (world_by hd front) { arms = m.falls })))
-      ((5, not (is_known l (record (world_by hd front) { arms = m.falls }))) ∷ (6, was_given l (record (world_by hd front) { arms = m.falls })) ∷ [])
+      ((5, not (is_known l (record (world_by hd front) { arms = m.falls }))) ∷ (6, was_given l (record
+          (world_by hd front) { arms = m.falls })) ∷ [])
       (ap (λ e. first_reason (reasons e (record (world_by hd front) { arms = m.falls }))) (sym is) ∙ none)).0)
       (λ c free. named_branch (include_reasons hd x) c (branch_named l c) free)
       (λ c intents br b found. subst (λ g. Acts (actor br.path) b c (on_branch (λ f. asking_of.include f.path x n c) c g)) (sym found)
       (included br x n b c))
       (λ b y br found asks free one there live home. include_over hd (world_by hd front) (latest hd form front m p s on few_before_it alone)
-      few_before_it (world_node l (counted (record (world_by hd front) { arms = m.falls }))) b y there live home l br found one x n asks free)
+      few_before_it (world_node l (counted (record (world_by hd front) { arms = m.falls }))) b y there live home l br found one x n asks
+          free)
   found_by alone (event.Commit l) is name_is asks_it = found_so hd form front m p s on few_before_it alone (input.Commit l) l
       (world_node l (counted (record (world_by hd front) { arms = m.falls })))
       (ap (λ e. happens e (let g = m.asked in g.arm) (counted (record (world_by hd front) { arms = m.falls }))) is)
@@ -475,38 +507,45 @@ module _ (hd : Header) (form : HeaderInForm hd) (front : Run hd) (m : Move) (p :
 
       waiting : is_waiting (next p (event_of m) bodies) l ≡ true → ⊥
       waiting waits = before
-          (found_by alone (event_of m) refl l asks_it work.number work.node work.parts work.there work.live work.act work.doing work.does waits_now)
+          (found_by alone (event_of m) refl l asks_it work.number work.node work.parts work.there work.live work.act work.doing work.does
+              waits_now)
         where
           work : IsAtWork (moved m (world_by hd front)) l
           work = ties.at_work hd form (next p (event_of m) bodies) (moved m (world_by hd front)) after.all l waits
 
           waits_now : is_waiting_now (let d = work.doing in d.now) ≡ true
           waits_now = now (let d = work.doing in d.now)
-              (ties.at_node hd form (next p (event_of m) bodies) (moved m (world_by hd front)) after.all work.number work.node work.parts work.act work.doing
+              (ties.at_node hd form (next p (event_of m) bodies) (moved m
+                  (world_by hd front)) after.all work.number work.node work.parts work.act work.doing
               work.there work.live work.does)
             where
-              now : (g : Now) → IsAt (next p (event_of m) bodies).accepted (next p (event_of m) bodies).lines (let d = work.doing in d.label) g →
+              now : (g : Now) → IsAt (next p (event_of m) bodies).accepted (next p (event_of m) bodies).lines
+                  (let d = work.doing in d.label) g →
                   is_waiting_now g ≡ true
               now (Calling c) at = refl
               now (Committing c) at = refl
               now Idle at =
-                  let none : is_waiting (next p (event_of m) bodies) l ≡ false = ap (is_waiting (next p (event_of m) bodies)) (sym work.label)
+                  let none : is_waiting (next p (event_of m) bodies) l ≡ false = ap (is_waiting (next p (event_of m) bodies))
+                      (sym work.label)
                   ∙ (λ i. is_some (at.0 i) || at.1 i) in
                   let no_way : true ≡ false = sym waits ∙ none in absurd (cc no_way)
 
           before : WaitedAt hd form front m p s on few_before_it alone work.act → ⊥
           before b =
               let old = ties.its_act hd form p (world_by hd front) s.all b.0 b.1 b.2 work.act b.3 b.4 b.5 b.6 in
-              let new = ties.its_act hd form (next p (event_of m) bodies) (moved m (world_by hd front)) after.all work.number work.node work.parts work.act
+              let new = ties.its_act hd form (next p (event_of m) bodies) (moved m
+                  (world_by hd front)) after.all work.number work.node work.parts work.act
               work.doing work.there work.live work.does in
               let later : members.In old.0 (all_acts (next p (event_of m) bodies).lines) =
               subst (members.In old.0) (sym (acts-append [] p.lines (block (p.count + 1) bodies)))
               (still_there old.0 (all_acts p.lines) (block (p.count + 1) bodies) old.1) in
               let sound = its_sound (moved m (world_by hd front)).lines
-              (let g = ties.base hd form (next p (event_of m) bodies) (moved m (world_by hd front)) after.all in let h = g.halts in h.holds.0.1.right) in
+              (let g = ties.base hd form (next p (event_of m) bodies) (moved m
+                  (world_by hd front)) after.all in let h = g.halts in h.holds.0.1.right) in
               let apart = subst (λ ls. AreDistinct (all_acts ls)) (sym (ties.same_lines hd form (next p (event_of m) bodies)
               (moved m (world_by hd front)) after.all)) sound.distinct in
-              let same : old.0 ≡ new.0 = one_act (all_acts (next p (event_of m) bodies).lines) old.0 new.0 apart later new.1 (old.3 ∙ sym new.3) in
+              let same : old.0 ≡ new.0 = one_act (all_acts (next p (event_of m) bodies).lines) old.0 new.0 apart later new.1 (old.3
+                  ∙ sym new.3) in
               let label : name (let d = b.3 in d.label) ≡ l = sym old.2 ∙ ap (λ (z : Act). z.label) same ∙ new.2 ∙ work.label in
               let no_way : true ≡ false = sym (ties.waits_so hd form p (world_by hd front) s.all b.0 b.1 b.2 work.act b.3 b.4 b.5 b.6 b.7)
               ∙ ap (is_waiting p) label ∙ rests in cc no_way

@@ -1,10 +1,13 @@
 -- Who waits as a quiesce begins that nothing cuts short, and behind it, by the journal.
 use Rattle.arj_law_parts.proofs.Words
-use Words.{◌≡◌, ◌∙◌, ◌+◌, ◌<◌, ◌==◌, ◌&&◌, ◌||◌, not, ltb-true, binding_number, ℕ, Bool, true, false, List, [], ◌∷◌, ◌++◌, length, refl, sym, ap, subst, arith, nat_tests}
-use Words.{Option, Some, None, is_some, option_map, ◌⊎◌, inl, inr, ⊎_elim, AllByRecursion, Contains, In, in_from, in_left, list_any-append, and_parts, list_all, list_any, bytes_eq}
-use Words.{bytes_eq-Decides, Body, Cause, Event, Header, Line, Label, Uid, Binding, name, Move, World, moved, world_by, Coord, Doing, Calling, Committing, Idle, Now}
-use Words.{Node, Parts, at_place, coord_in, coord_of, doing_of, is_node, is_waiting_now, see, AreUp, HasAnswer, IsAnswerTo, IsOvertaken, IsSaid}
-use Words.{WaitsOvertaken, Steps, Goal, Include, At, AtActivate, AtNote, Known, CallEnd, end_line, EndsQuiet, all_moved, is_refusal, StillWaits}
+use Words.{◌≡◌, ◌∙◌, ◌+◌, ◌<◌, ◌==◌, ◌&&◌, ◌||◌, not, ltb-true, binding_number, ℕ, Bool, true, false, List, [], ◌∷◌, ◌++◌, refl, sym, ap}
+use Words.{subst, arith, nat_tests}
+use Words.{Option, Some, None, is_some, option_map, ◌⊎◌, inl, inr, ⊎_elim, In, in_from, in_left, list_any-append, and_parts, list_all}
+use Words.{list_any, bytes_eq}
+use Words.{bytes_eq-Decides, Body, Cause, Event, Header, Line, Label, Uid, Binding, name, Move, World, moved, world_by, Doing, Calling}
+use Words.{Committing, Idle, Now}
+use Words.{Node, Parts, at_place, coord_in, coord_of, doing_of, is_waiting_now, see, AreUp, HasAnswer, IsAnswerTo, IsOvertaken, IsSaid}
+use Words.{WaitsOvertaken, Steps, Goal, Include, At, AtActivate, AtNote, Known, CallEnd, end_line, EndsQuiet, is_refusal}
 use Words.body
 use Words.event
 use Words.cause
@@ -41,8 +44,8 @@ use Rattle.arj_law_cause.proofs.told.Joined as joined
 use Rattle.arj_law_cause.proofs.waits.waiting.Lists.{any_in}
 use Rattle.arj_law_cause.specs.follow.lines.Lines.{HasLines, LinesStep, may_stand_or_lose}
 use Rattle.arj_law_cause.specs.rounds.Known.{has_limit}
-use Rattle.arj_law_cause.specs.rounds.Quiesces.{Answers, IsWhole, SaysQuiet, answers_call, answers_commit, cuts_short, is_bound_twice, is_outdone}
-use Rattle.arj_law_cause.specs.rounds.Quiesces.{is_given_up, is_overtaken, makes_later, nobody_waits}
+use Rattle.arj_law_cause.specs.rounds.Quiesces.{Answers, IsWhole, SaysQuiet, answers_call, answers_commit, is_bound_twice, is_outdone}
+use Rattle.arj_law_cause.specs.rounds.Quiesces.{is_given_up, is_overtaken, makes_later}
 use Rattle.arj_law_cause.specs.waits.commits.Commits.{CommitsFit, CommitsStep}
 use Rattle.arj_law_cause.specs.waits.lost.Lost.{LostStep, is_lost}
 use Rattle.arj_law_cause.specs.waits.waiting.Waits.{IsAsked, IsAt, IsAtWork}
@@ -134,7 +137,8 @@ its_lines hd p bodies l = by bodies (is_refused bodies) refl l.lines
         }
 
 -- nothing is lost in it
-none_lost : (hd : Header) (p : Past) (bodies : List Body) → LostStep hd p event.Quiesce bodies → (b : Body) → In b bodies → is_lost b ≡ false
+none_lost : (hd : Header) (p : Past) (bodies : List Body) → LostStep hd p event.Quiesce bodies → (b : Body) → In b bodies →
+    is_lost b ≡ false
 none_lost hd p bodies lost b there = by b (all_in (λ (c : Body). is_lost c ≡ true → may_stand event.Quiesce c ≡ true) bodies lost b there)
   where
     by : (b : Body) → (is_lost b ≡ true → may_stand event.Quiesce b ≡ true) → is_lost b ≡ false
@@ -146,7 +150,8 @@ none_lost hd p bodies lost b there = by b (all_in (λ (c : Body). is_lost c ≡ 
 same_name : (l : List ℕ) → bytes_eq l l ≡ true
 same_name l = (bytes_eq-Decides l l).1 refl
 
-ended_call : (x : ℕ) (g : Goal) (e : CallEnd) (l : Label) → is_lost (end_line x g e l) ≡ false → answers_call (name l) (end_line x g e l) ≡ true
+ended_call : (x : ℕ) (g : Goal) (e : CallEnd) (l : Label) → is_lost (end_line x g e l) ≡ false →
+    answers_call (name l) (end_line x g e l) ≡ true
 ended_call x (calls.Run o) (calls.Answered a) l kept = λ i. same_name (name l) i && true
 ended_call x (Include n) (calls.Answered a) l kept = λ i. same_name (name l) i && true
 ended_call x g (calls.Included st) l kept = λ i. same_name (name l) i && true
@@ -217,7 +222,8 @@ overtaken_so hd form r k n t u d s there live does now over few =
     said b same g made = let c = made.claim in
         twice_bound (let w = world_by hd r in w.lines) s.x b over.binding made.server over.server c.0 over.line
         (older_is b over.binding (small b made.server c.0) (small over.binding over.server over.line)
-        (ltb-true (binding_number b) (binding_number over.binding) (ap (λ (z : Binding). binding_less z over.binding) (sym same) ∙ over.greater)))
+        (ltb-true (binding_number b) (binding_number over.binding) (ap (λ (z : Binding). binding_less z over.binding) (sym same)
+            ∙ over.greater)))
 
     by : (g : Goal) → s.goal ≡ g → (at : At) → IsToSettle at over.known → StandsOn g (kept_of s.x (root_at (root_of s.path) t.coord)) at →
         NamedAt M.sent (WasMade M) g s.path s.x at →
@@ -235,7 +241,8 @@ overtaken_so hd form r k n t u d s there live does now over few =
 
 -- ---- a call that is overtaken, behind an event
 
-module _ (hd : Header) (form : HeaderInForm hd) (front : Run hd) (m : Move) (q : Past) (after : Kept hd form q (moved m (world_by hd front)))
+module _ (hd : Header) (form : HeaderInForm hd) (front : Run hd) (m : Move) (q : Past) (after : Kept hd form q (moved m
+    (world_by hd front)))
     (few : HasFewBindings (moved m (world_by hd front)).lines) where
   -- the run with this event
   abbrev longer : Run hd
@@ -245,7 +252,8 @@ module _ (hd : Header) (form : HeaderInForm hd) (front : Run hd) (m : Move) (q :
   longer_is = more_moves front.moves (m ∷ []) (Words.world_from hd front.start)
 
   -- a call that is overtaken waits by the journal
-  pub overtaken_so_far : (k : ℕ) (n : Node) (t : Parts) (u : Uid) (d : Doing) (x : Steps) → at_place k (moved m (world_by hd front)).nodes ≡ Some n → n.live ≡ Some t →
+  pub overtaken_so_far : (k : ℕ) (n : Node) (t : Parts) (u : Uid) (d : Doing) (x : Steps) →
+      at_place k (moved m (world_by hd front)).nodes ≡ Some n → n.live ≡ Some t →
       doing_of u t.coord ≡ Some d → d.now ≡ Calling x → IsOvertaken (IsSaid (moved m (world_by hd front)).lines) x → (e : Event)
       × (waits_for q.accepted q.lines (name d.label) ≡ Some e) × (is_overtaken q.lines (Some e) ≡ true)
   overtaken_so_far k n t u d x there live does now over =
@@ -258,7 +266,8 @@ module _ (hd : Header) (form : HeaderInForm hd) (front : Run hd) (m : Move) (q :
         (let z = a.asked in z.event),
         a.waits,
         ap (λ (y : Event). is_overtaken q.lines (Some y)) (g.2 ∙ ap (asks_goal g.0 x.x) o.1)
-            ∙ ap (λ ls. is_bound_twice ls x.x) (ties.same_lines hd form q (moved m (world_by hd front)) after.all ∙ ap (λ (z : World). z.lines) (sym longer_is)) ∙ o.2,
+            ∙ ap (λ ls. is_bound_twice ls x.x) (ties.same_lines hd form q (moved m (world_by hd front)) after.all
+                ∙ ap (λ (z : World). z.lines) (sym longer_is)) ∙ o.2,
       )
 
 -- ---- a quiesce that nothing cuts short
@@ -306,7 +315,8 @@ module _ (hd : Header) (form : HeaderInForm hd) (front : Run hd) (m : Move) (p :
 
   leaves : HasFewBindings (moved m (world_by hd front)).lines → (l : List ℕ) → is_waiting q l ≡ true →
       is_overtaken q.lines (waits_for q.accepted q.lines l) ≡ true
-  leaves few l waits = by work.doing.now refl (ties.at_node hd form q v after.all work.number work.node work.parts work.act work.doing work.there work.live work.does)
+  leaves few l waits = by work.doing.now refl (ties.at_node hd form q v after.all work.number work.node work.parts work.act work.doing
+      work.there work.live work.does)
     where
       work : IsAtWork v l
       work = ties.at_work hd form q v after.all l waits
@@ -321,7 +331,8 @@ module _ (hd : Header) (form : HeaderInForm hd) (front : Run hd) (m : Move) (p :
       so waits_now =
           let o = runs_leave_overtaken hd form front m is goes_on still_up work.number (let t = work.parts in t.coord) work.act d
           (ties.node_there hd form q v after.all work.number work.node work.there) found work.does waits_now in
-          let e = overtaken_so_far hd form front m q after few work.number work.node work.parts work.act d o.0 work.there work.live work.does o.1 o.2 in
+          let e = overtaken_so_far hd form front m q after few work.number work.node work.parts work.act d o.0 work.there work.live
+              work.does o.1 o.2 in
           ap (λ k. is_overtaken q.lines (waits_for q.accepted q.lines k)) (sym work.label) ∙ ap (is_overtaken q.lines) e.1 ∙ e.2
 
       by : (x : Now) → d.now ≡ x → IsAt q.accepted q.lines d.label x → is_overtaken q.lines (waits_for q.accepted q.lines l) ≡ true
@@ -344,11 +355,14 @@ module _ (hd : Header) (form : HeaderInForm hd) (front : Run hd) (m : Move) (p :
     found = ap coord_in work.there ∙ ap (option_map coord_of) work.live
 
     stands : IsAt p.accepted p.lines (let z = work.doing in z.label) (let z = work.doing in z.now)
-    stands = ties.at_node hd form p (world_by hd front) s.all work.number work.node work.parts work.act work.doing work.there work.live work.does
+    stands = ties.at_node hd form p (world_by hd front) s.all work.number work.node work.parts work.act work.doing work.there work.live
+        work.does
 
-    answer : is_waiting_now (let z = work.doing in z.now) ≡ true → WaitsOvertaken (moved m (world_by hd front)) work.number work.act work.doing
+    answer : is_waiting_now (let z = work.doing in z.now) ≡ true → WaitsOvertaken (moved m
+        (world_by hd front)) work.number work.act work.doing
         ⊎ HasAnswer work.doing (let z = world_by hd front in z.lines) (let z = moved m (world_by hd front) in z.lines)
-    answer now = quiesces_answer_the_rest hd form front m work.number (let t = work.parts in t.coord) work.act work.doing is goes_on still_up
+    answer now = quiesces_answer_the_rest hd form front m work.number (let t = work.parts in t.coord) work.act work.doing is goes_on
+        still_up
         (ties.node_there hd form p (world_by hd front) s.all work.number work.node work.there) found work.does now
 
     -- a line of the quiesce
@@ -372,9 +386,11 @@ module _ (hd : Header) (form : HeaderInForm hd) (front : Run hd) (m : Move) (p :
   or_true false = refl
 
   abbrev Still : List ℕ → Event → Type 0
-  Still l e = ((waits_for q.accepted q.lines l ≡ Some e) × (is_overtaken q.lines (Some e) ≡ true)) ⊎ (list_any (answers_call l) bodies ≡ true)
+  Still l e = ((waits_for q.accepted q.lines l ≡ Some e) × (is_overtaken q.lines (Some e) ≡ true))
+      ⊎ (list_any (answers_call l) bodies ≡ true)
 
-  calls_so : HasFewBindings (moved m (world_by hd front)).lines → (l : List ℕ) (e : Event) → waits_for p.accepted p.lines l ≡ Some e → Still l e
+  calls_so : HasFewBindings (moved m (world_by hd front)).lines → (l : List ℕ) (e : Event) → waits_for p.accepted p.lines l ≡ Some e →
+      Still l e
   calls_so few l e is_asked = by (let z = work l waits in let y = z.doing in y.now) refl (stands l waits)
     where
       waits : is_waiting p l ≡ true
@@ -396,7 +412,8 @@ module _ (hd : Header) (form : HeaderInForm hd) (front : Run hd) (m : Move) (p :
       still o =
           let a = at_of (see [] v) (work l waits).number o.still.coord o.still.found in
           let does = ap (doing_of (work l waits).act) a.same ∙ o.still.does in
-          let x = overtaken_so_far hd form front m q after few (work l waits).number a.node a.parts (work l waits).act o.still.doing o.steps a.found a.live does o.now o.overtaken in
+          let x = overtaken_so_far hd form front m q after few (work l waits).number a.node a.parts
+              (work l waits).act o.still.doing o.steps a.found a.live does o.now o.overtaken in
           let same : waits_for q.accepted q.lines l ≡ Some x.0 =
           ap (waits_for q.accepted q.lines) (sym (ap name o.still.label ∙ label)) ∙ x.1 in
           let one : x.0 ≡ e = waits_same p.accepted q.accepted p.lines q.lines l e x.0
@@ -417,7 +434,8 @@ module _ (hd : Header) (form : HeaderInForm hd) (front : Run hd) (m : Move) (p :
 
           by_abort : (why : Cause) × (b ≡ body.Aborted dk.label why) × (is_refusal why ≡ true) → list_any (answers_call l) bodies ≡ true
           by_abort r = off_on (is_committing p.lines (name dk.label))
-              (ends_one p.start (p.accepted ++ Rattle.arj_model.specs.Past.asked_of p event.Quiesce ∷ []) p.lines (p.count + 1) bodies dk.label r.0
+              (ends_one p.start (p.accepted ++ Rattle.arj_model.specs.Past.asked_of p event.Quiesce ∷ []) p.lines
+                  (p.count + 1) bodies dk.label r.0
               (refusal_ends dk.label r.0 r.2) its.late commits (subst (λ y. In y bodies) r.1 (there l waits h))) a.rests
 
       by : (x : Now) → dk.now ≡ x → IsAt p.accepted p.lines dk.label dk.now → Still l e

@@ -1,19 +1,15 @@
 -- What a node that is asked something leaves waiting, when it has handled all that it sent to itself.
 use Rattle.arj_law_parts.proofs.Words
-use Words.{◌≡◌, ◌∙◌, ◌+◌, ◌-◌, ◌==◌, ◌&&◌, ◌||◌, not, ℕ, zero, suc, Bool, true, false, cond, List, [], ◌∷◌, ◌++◌, refl, sym, ap, subst, arith, nat_tests}
-use Words.{Option, Some, None, ◌⊎◌, inl, inr, ⊎_elim, AllByRecursion, and_parts, eqb-true, nat_le, in_left, in_right, Body, Header, Line, Message, Uid, Ask, Asked, Head}
-use Words.{Path, actor, answers, asks, asked_by, request, Reply, End, Steps, next_ask, next_node, Machine, ask_of, left_of, plan_of, Calling, Committing, Idle, Coord}
-use Words.{Doing, Now, doing_of, has, Did, Disk, Do, Effect, Say, Send, worked, Here, Parts, Ran, Handled, Took, Void, taken, with_coord, first_done, first_queued}
-use Words.{handle_all, most_rounds, next_round, ran, ran_handled, rounds, whole, Input, Node, acts, is_waiting_now, at_place, place_other, set_place, World, Post, Seen, see}
-use Words.{IsOvertaken, IsSaid, coord_in, coord_of, option_map, response, step, steps, step_node, step_with, done_step, halted_at, armed, disarmed, cut, count_works, at_number, Arm, nat_lt, refusal}
-use Words.{bodies, frame_kind, in_to, length, numbered, sent_line, Branch, Include, Intent, Kind, Op, Plan, Used, ended, ended_at, goes_on}
-use Words.{Label, name, Step, Start, append-nil, branch_named, branch_numbered, branch_of, coord_did, counted, first_reason, giving, happens, is_empty, is_own, lacks_labels}
-use Words.{limited, no_labels, number_of, reasons, refusal_at, refusal_up, run_unless, step_of, step_unless, step_up, uid_at, moved, world_by, Move}
-use Words.{Event, is_known, was_given, call_reasons, commit_reasons, include_reasons, is_some, on_branch, refused_by, uid_eq, uid_same}
-use Words.{is_node as world_is, node_of as world_node}
+use Words.{◌≡◌, ◌∙◌, ◌+◌, ◌==◌, ℕ, zero, suc, Bool, true, false, cond, List, [], ◌∷◌, ◌++◌, refl, sym, ap, subst, arith, nat_tests}
+use Words.{Option, Some, None, ◌⊎◌, inl, inr, ⊎_elim, in_right, Body, Header, Message, Uid, Ask, Asked, Head}
+use Words.{Path, actor, asks, asked_by, request, Reply, End, Steps, next_ask, next_node, Machine, ask_of, left_of, plan_of, Calling}
+use Words.{Committing, Idle, Coord}
+use Words.{Doing, Now, doing_of, has, Did, Disk, Do, Effect, Say, Send, worked, Here, Parts, Ran, Handled, Took, Void, taken, with_coord}
+use Words.{first_done, first_queued}
+use Words.{handle_all, most_rounds, next_round, ran, ran_handled, rounds, whole, Node, is_waiting_now, at_place, World, Post, Seen, see}
+use Words.{IsOvertaken, IsSaid, coord_in, coord_of, option_map, response}
+use Words.{Branch, Include, Intent, Kind, Op, Plan, Used, ended, ended_at, goes_on}
 use Words.list as members
-use Words.event
-use Words.input
 use Words.body
 use Words.calls
 use Words.cause
@@ -33,8 +29,10 @@ use Rattle.arj_law_promise.proofs.settling.Waiting.{AllKnown, all_answer, all_ke
 use Rattle.arj_law_runs.proofs.Terms.{AnswersWaits, AreBrought, Asking, HasWay, Walks, Up, up, want_of_call, want_of_commit}
 use Rattle.arj_law_runs.proofs.resting
 use resting.{Effects.works, Flights.Left, Flights.MayGrow, Flights.MessagesKeep, Flights.whole_keeps, Flights.with_here}
-use resting.{Hearing.IsHome, Hearing.AsksIn, Hearing.Fits, Hearing.Goes, Hearing.Moves, Hearing.asks_for, Hearing.call_steps, Hearing.commit_moves, Hearing.end_work, Passing.Brought, Passing.coords, Passing.message_brings}
-use resting.{Quiesces.good_home, Quiesces.keeps_good, Serving.asks_no_answer, Ways.Then, Ways.brought_more, Ways.brought_of, Ways.heard_stays, Ways.post_of}
+use resting.{Hearing.IsHome, Hearing.AsksIn, Hearing.Fits, Hearing.Goes, Hearing.Moves, Hearing.asks_for, Hearing.call_steps}
+use resting.{Hearing.commit_moves, Hearing.end_work, Passing.Brought, Passing.coords, Passing.message_brings}
+use resting.{Quiesces.good_home, Quiesces.keeps_good, Serving.asks_no_answer, Ways.Then, Ways.brought_more, Ways.brought_of}
+use resting.{Ways.heard_stays, Ways.post_of}
 use resting.{Ways.put, Worlds.Of, Worlds.nodes_in, Worlds.seen_up}
 use Rattle.arj_law_runs.specs.resting.Waits.{Brings, Answering, AsksFor, Want}
 
@@ -54,10 +52,12 @@ own_ran n t (Send to x ∷ es) d m i = by (to == n) refl i (own_ran n t es d m)
     to_is : Send to x ≡ Send n m → to ≡ n
     to_is is = cc is
 
-    by : (b : Bool) → (to == n) ≡ b → members.In (Send n m) (cond b (first_queued x (ran n t es d)) (first_done (Send to x) (ran n t es d))).outs →
+    by : (b : Bool) → (to == n) ≡ b → members.In (Send n m) (cond b (first_queued x (ran n t es d)) (first_done (Send to x)
+        (ran n t es d))).outs →
         (members.In (Send n m) (ran n t es d).outs → ⊥) → ⊥
     by true own there rest = rest there
-    by false apart (inl is) rest = let no_way : true ≡ false = sym (same n) ∙ ap (λ j. j == n) (sym (to_is is)) ∙ apart in absurd (cc no_way)
+    by false apart (inl is) rest = let no_way : true ≡ false = sym (same n) ∙ ap (λ j. j == n) (sym (to_is is))
+        ∙ apart in absurd (cc no_way)
     by false apart (inr there) rest = rest there
 
 own_handled : (n : ℕ) (h : Here) (r : Handled) (m : Message) → members.In (Send n m) (ran_handled n h r).outs → ⊥
@@ -185,13 +185,15 @@ module _ (hd : Header) (form : HeaderInForm hd) where
         is = Words.request_reads_back (record { path = (plan_of m).path; req = (plan_of m).req }) (ask_of m n);
         by = (let h = home k c is in h.commits u q m does now);
       };
-      brings = Asking refl refl (asks_for (want_of_commit u m n) (plan_of m).path (ask_of m n) (let h = home k c is in h.commits u q m does now) refl);
+      brings = Asking refl refl (asks_for (want_of_commit u m n) (plan_of m).path (ask_of m n)
+          (let h = home k c is in h.commits u q m does now) refl);
     };
   }
 
   -- ---- a node that is asked something
 
-  module _ (w : World) (h : Holds hd P w) (n : ℕ) (a : Node) (t : Parts) (there : at_place n w.nodes ≡ Some a) (live : a.live ≡ Some t) where
+  module _ (w : World) (h : Holds hd P w) (n : ℕ) (a : Node) (t : Parts) (there : at_place n w.nodes ≡ Some a) (live : a.live
+      ≡ Some t) where
     abbrev Cs : ℕ → Option Coord
     Cs = coords (nodes_in w)
 
@@ -209,7 +211,8 @@ module _ (hd : Header) (form : HeaderInForm hd) where
 
     module _ (did : Did Coord) (u : Uid) (b : Doing) (found : doing_of u t.coord ≡ Some b)
         (moves : Moves 0 b.now u t.coord did.part did.outs) (e : ℕ)
-        (walks : Walks P e n did.outs (Up P n (with_coord t did.part)) a.disk (see h.sent w)) (alone : (k : ℕ) → Of hd k → k ≡ n) (of : Of hd n) where
+        (walks : Walks P e n did.outs (Up P n (with_coord t did.part)) a.disk (see h.sent w)) (alone : (k : ℕ) → Of hd k →
+            k ≡ n) (of : Of hd n) where
       asked : Asked
       asked = record { act = u; req = 0 }
 
@@ -238,14 +241,16 @@ module _ (hd : Header) (form : HeaderInForm hd) where
       same_number = grind (arith, nat_tests)
 
       its_coord : coords (with_here n q.here (nodes_in w)) n ≡ Some (let p = q.here in let y = p.parts in y.coord)
-      its_coord = ap (λ x. coord_in (cond x (Some (record { number = n; disk = (let p = q.here in p.disk); live = Some (let p = q.here in p.parts) }))
+      its_coord = ap (λ x. coord_in (cond x (Some (record { number = n; disk = (let p = q.here in p.disk); live = Some
+          (let p = q.here in p.parts) }))
           (at_place n w.nodes))) same_number
 
       -- the action waited before
       abbrev Waited : Uid → Type 0
       Waited v = (x : Doing) × (doing_of v t.coord ≡ Some x) × (is_waiting_now x.now ≡ true)
 
-      way_back : (v : Uid) (want : Want) → want.act ≡ v → want.node ≡ n → HasWay (Then (IsOld (coords (nodes_in w))) n q.outs) n want → Waited v
+      way_back : (v : Uid) (want : Want) → want.act ≡ v → want.node ≡ n → HasWay (Then (IsOld (coords (nodes_in w))) n q.outs) n want →
+          Waited v
       way_back v want act node way = by way.under_way way.brings
         where
           post : Post
@@ -269,13 +274,15 @@ module _ (hd : Header) (form : HeaderInForm hd) where
           by : Then (IsOld (coords (nodes_in w))) n q.outs way.post → Brings n want way.post → Waited v
           by (inl o) (Asking from to x) = from_old o from x
           by (inl o) (Answering from to x) =
-              let no_way : ◌≡◌ {A = Option (Asked × Reply)} (Some (_, x.reply)) None = sym x.is ∙ asks_no_answer (way.post).message o.head o.ask o.is in
+              let no_way : ◌≡◌ {A = Option (Asked × Reply)} (Some (_, x.reply)) None = sym x.is
+                  ∙ asks_no_answer (way.post).message o.head o.ask o.is in
               absurd (cc no_way)
           by (inr sent) (Asking from to x) = never (to ∙ node) sent.1
           by (inr sent) (Answering from to x) = never to sent.1
 
       -- whoever waits at the end is overtaken, or waited before
-      pub calls_left : (v : Uid) (x : Doing) (s : Steps) → doing_of v (let p = q.here in let y = p.parts in y.coord) ≡ Some x → x.now ≡ Calling s →
+      pub calls_left : (v : Uid) (x : Doing) (s : Steps) → doing_of v (let p = q.here in let y = p.parts in y.coord) ≡ Some x →
+          x.now ≡ Calling s →
           Of hd (next_node s) → IsOvertaken Said s ⊎ Waited v
       calls_left v x s does now to = ⊎_elim (λ o. inl o) (λ way. inr (way_back v (want_of_call v s) refl (alone (next_node s) to) way))
           (left_so.calls n (let p = q.here in let y = p.parts in y.coord) v x s of its_coord does now)
@@ -354,15 +361,19 @@ votes : (now : Now) (u : Uid) (servers : List ℕ) (p : Plan) → actor p.path �
 votes now u [] p who = prepares now u (commit.targets_of p) p who
 votes now u (n ∷ ns) p who = who
 
-top_commits : (path : Path) (intents : List (Uid × Intent)) (b : Doing) (c : Coord) → Acts (actor path) b c (asking_of.commit_top path intents c)
+top_commits : (path : Path) (intents : List (Uid × Intent)) (b : Doing) (c : Coord) → Acts (actor path) b c
+    (asking_of.commit_top path intents c)
 top_commits path intents b c = behind (actor path) b c (says (actor path) body.Committing c)
-    (asking_of.moved_commit (actor path) (commit.start (plan_for path (asking_of.last_req (doing_of (actor path) c)) (root_at (root_of path) c) c)) intents c)
+    (asking_of.moved_commit (actor path) (commit.start (plan_for path (asking_of.last_req (doing_of (actor path) c)) (root_at
+        (root_of path) c) c)) intents c)
     (commit_moves 0 b.now (actor path)
     (commit.start (plan_for path (asking_of.last_req (doing_of (actor path) c)) (root_at (root_of path) c) c)) intents c
-    (votes b.now (actor path) (commit.servers_of (plan_for path (asking_of.last_req (doing_of (actor path) c)) (root_at (root_of path) c) c))
+    (votes b.now (actor path) (commit.servers_of (plan_for path (asking_of.last_req (doing_of (actor path) c)) (root_at
+        (root_of path) c) c))
     (plan_for path (asking_of.last_req (doing_of (actor path) c)) (root_at (root_of path) c) c) refl))
 
-pub committed : (br : Branch) (intents : List (Uid × Intent)) (b : Doing) (c : Coord) → Acts (actor br.path) b c (asking_of.commit_action br intents c)
+pub committed : (br : Branch) (intents : List (Uid × Intent)) (b : Doing) (c : Coord) → Acts (actor br.path) b c
+    (asking_of.commit_action br intents c)
 committed br intents b c = by br.doomed br.kind
   where
     open_one : (k : Kind) → Acts (actor br.path) b c (asking_of.commit_open br intents c k)

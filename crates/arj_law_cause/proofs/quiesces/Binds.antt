@@ -1,14 +1,16 @@
 -- What a node leaves waiting that is asked something on its own: nobody who didn't wait is overtaken, since naming's answer names the last
 -- binding of the object, and makes no other one in the event.
 use Rattle.arj_law_parts.proofs.Words
-use Words.{◌≡◌, ◌≢◌, ◌⊎◌, ◌∙◌, ◌≤◌, ◌<◌, ◌+◌, ◌*◌, ◌==◌, ◌++◌, ◌||◌, not, ℕ, Bool, true, false, cond, List, [], ◌∷◌, Option, Some, None, refl, sym, ap}
-use Words.{subst, arith, nat_lt, nat_tests, ⊤, inl, inr, ⊎_elim, and_parts, in_from, list_all, option_map, append-nil, Contains, Row, Ask, Binding, Body}
-use Words.{BoundReply, Entry, Head, Header, Line, Message, Path, Uid, asks, request, Reply, actor, answers, top_of, At, AtActivate, AtBind, AtInvoke, AtLoad}
-use Words.{AtNote, Goal, Include, Known, Run, Steps, goes_on, is_include, start, Calling, Coord, Doing, Now, doing_of, Did, Disk, Do, Effect, Pair, Say}
-use Words.{Send, Served, void, Counted, Live, Made, Named, Naming, bind_call, bind_made, bind_named, bound_new, conflict_on, include_asked, is_over}
-use Words.{listed_entry, live_above, live_asked, lock_lines, made_above, make_asked, next_server, on_counted, at_number, at_uid, binding_less}
-use Words.{binding_number, Parts, with_coord, whole, Ran, Input, Node, acts, is_waiting_now, refusal_up, at_place, World, Seen, see, IsOvertaken, IsSaid}
-use Words.{IsToSettle, is_on, numbered, put_same}
+use Words.{◌≡◌, ◌⊎◌, ◌∙◌, ◌≤◌, ◌<◌, ◌+◌, ◌*◌, ◌==◌, ◌++◌, ℕ, Bool, true, false, cond, List, [], ◌∷◌, Option, Some, None, refl, sym, ap}
+use Words.{subst, arith, nat_lt, nat_tests, ⊤, inl, inr, ⊎_elim, and_parts, list_all, append-nil, Row, Binding}
+use Words.{BoundReply, Entry, Head, Header, Message, Path, Uid, request, Reply, actor, top_of, At, AtActivate, AtBind, AtInvoke, AtLoad}
+use Words.{AtNote, Goal, Include, Known, Run, Steps, goes_on, is_include, start, Calling, Coord, Doing, doing_of, Did, Effect, Say}
+use Words.{Send, Served, void, Counted, Live, Made, Named, Naming, bind_call, bind_made, bind_named, bound_new, conflict_on, is_over}
+use Words.{listed_entry, live_above, live_asked, lock_lines, made_above, make_asked, next_server, on_counted, at_number, at_uid}
+use Words.{binding_less}
+use Words.{binding_number, Parts, with_coord, whole, Ran, Input, Node, acts, is_waiting_now, refusal_up, at_place, World, Seen, see}
+use Words.{IsOvertaken, IsSaid}
+use Words.{IsToSettle, is_on, numbered}
 use Words.list as members
 use Words.ask
 use Words.body
@@ -17,15 +19,15 @@ use Words.mode
 use Words.naming
 use Rattle.arj_law_lock_view.proofs.Terms.{IsAsker, begun_fits, owners_of, untold_path}
 use Rattle.arj_law_lock_view.specs.facts.Uppers.{HoldsObjects, ObjectsAreHeld}
-use Rattle.arj_law_parts.proofs.Terms.{Fits, HasLock, IsGoodObject}
+use Rattle.arj_law_parts.proofs.Terms.{Fits, IsGoodObject}
 use Rattle.arj_law_parts.proofs.moves.Happens.{keeps_asked}
 use Rattle.arj_law_parts.proofs.parts.GoodObjects.{owner_untold}
 use Rattle.arj_law_parts.specs.moves.Keeps.{AsksNode, is_act}
 use Rattle.arj_law_parts.specs.parts.Messages.{FitsAsked}
-use Rattle.arj_law_promise.proofs.Terms.{Holds, KeepsAsked, up}
+use Rattle.arj_law_promise.proofs.Terms.{Holds, up}
 use Rattle.arj_law_runs.proofs.kept.Walked.{same_number}
 use Rattle.arj_law_runs.proofs.resting
-use resting.{Effects.after, Effects.after_sent, Effects.walk_end, Effects.works, Hearing.IsHome, Serving.asks_no_answer, Ways.post_of, Worlds.nodes_in, Worlds.seen_up}
+use resting.{Effects.after, Effects.after_sent, Effects.walk_end, Effects.works, Hearing.IsHome, Ways.post_of, Worlds.seen_up}
 use Rattle.arj_law_runs.specs.calls.Bindings.{HasFewBindings}
 use Rattle.arj_law_serial.proofs.holding.Says as saying
 use Rattle.arj_law_cause.proofs.bindings.Binding.{IsLight, bind_shape, locks_plain}
@@ -34,7 +36,7 @@ use Rattle.arj_law_cause.proofs.bindings.Latest.{AllLatest, KnowsLatest, count_s
 use Rattle.arj_law_cause.proofs.bindings.Lines.{IsLined, lined_more}
 use Rattle.arj_law_cause.proofs.bindings.Nodes.{ArePlain, is_plain}
 use Rattle.arj_law_cause.proofs.quiesces.Chain
-use Chain.{AtFine, CoordFine, EndFine, OutsFine, ReplyFine, goes_fine, whole_bind}
+use Chain.{AtFine, CoordFine, EndFine, ReplyFine, goes_fine, whole_bind}
 use Rattle.arj_law_cause.proofs.quiesces.Commits.{AreCalm, calm_ask, calm_commit, commit_leaves, whole_calm}
 
 some_is : {A : Type 0} {a b : A} → Some a ≡ Some b → a ≡ b
@@ -111,8 +113,10 @@ module _ (hd : Header) (w : World) (held : Holds hd KnowsLatest w) (few : HasFew
 
   -- ---- of a call or an include, by a Bind
 
-  module _ (i : Input) (about : is_act i ≡ true) (asks_it : AsksNode hd i) (free : refusal_up hd i y.coord ≡ None) (x : ℕ) (g : Goal) (h : Head)
-      (avoid : Binding) (outs : (acts i (let d = a.disk in d.intents) y.coord).outs ≡ Send 1 (request h (ask.Bind x (is_include g) avoid)) ∷ []) where
+  module _ (i : Input) (about : is_act i ≡ true) (asks_it : AsksNode hd i) (free : refusal_up hd i y.coord
+      ≡ None) (x : ℕ) (g : Goal) (h : Head)
+      (avoid : Binding) (outs : (acts i (let d = a.disk in d.intents) y.coord).outs ≡ Send 1 (request h (ask.Bind x
+          (is_include g) avoid)) ∷ []) where
     v : Parts
     v = with_coord y (acts i (let d = a.disk in d.intents) y.coord).part
 
@@ -127,12 +131,14 @@ module _ (hd : Header) (w : World) (held : Holds hd KnowsLatest w) (few : HasFew
         (after w.event n es (see held.sent w)))) outs
         (walk_end KnowsLatest w.event n (acts i (let d = a.disk in d.intents) y.coord).outs
         (Rattle.arj_law_parts.specs.moves.Walks.Up KnowsLatest n (with_coord y (acts i (let d = a.disk in d.intents) y.coord).part)) a.disk
-        (see held.sent w) (let k = keeps_asked hd KnowsLatest (latest_keep hd) in k.act w.event n a.disk y i (see held.sent w) about asks_it free here))
+        (see held.sent w) (let k = keeps_asked hd KnowsLatest (latest_keep hd) in k.act w.event n a.disk y i
+            (see held.sent w) about asks_it free here))
 
     its_node : (let S = up n a.disk (with_coord y (acts i (let d = a.disk in d.intents) y.coord).part) M in S.nodes n)
         ≡ Some (record { number = n; disk = a.disk; live = Some (with_coord y (acts i (let d = a.disk in d.intents) y.coord).part) })
     its_node = λ j. cond (same_number n j)
-        (Some (record { number = n; disk = a.disk; live = Some (with_coord y (acts i (let d = a.disk in d.intents) y.coord).part) })) (M.nodes n)
+        (Some (record { number = n; disk = a.disk; live = Some (with_coord y (acts i (let d = a.disk in d.intents) y.coord).part) }))
+            (M.nodes n)
 
     was_held : ObjectsAreHeld (up n a.disk (with_coord y (acts i (let d = a.disk in d.intents) y.coord).part) M)
     was_held = known.0.1
@@ -207,12 +213,14 @@ module _ (hd : Header) (w : World) (held : Holds hd KnowsLatest w) (few : HasFew
         e_entry = listed_entry x (let d = a.disk in d.names)
 
         abbrev r : Served Counted BoundReply
-        r = bind_named o.inc x h.path (is_include g) avoid (listed_entry x (let d = a.disk in d.names)) (record { named = q; count = o.count })
+        r = bind_named o.inc x h.path (is_include g) avoid (listed_entry x (let d = a.disk in d.names))
+            (record { named = q; count = o.count })
 
         bind_is : naming.bind h.path x (is_include g) avoid (let d = a.disk in d.names) o
             ≡ on_counted x (bind_named o.inc x h.path (is_include g) avoid (listed_entry x (let d = a.disk in d.names))) o (Some q)
         bind_is = (λ j. cond (fresh j) (void o)
-            (on_counted x (bind_named o.inc x h.path (is_include g) avoid (listed_entry x (let d = a.disk in d.names))) o (at_number x o.objects)))
+            (on_counted x (bind_named o.inc x h.path (is_include g) avoid (listed_entry x (let d = a.disk in d.names))) o
+                (at_number x o.objects)))
             ∙ (λ j. on_counted x (bind_named o.inc x h.path (is_include g) avoid (listed_entry x (let d = a.disk in d.names))) o (found j))
 
         said_in : (c : Binding) (s : ℕ) → Says c s → members.In (Say (body.Bound x c s)) r.outs
@@ -245,8 +253,10 @@ module _ (hd : Header) (w : World) (held : Holds hd KnowsLatest w) (few : HasFew
               where
                 up_one : (p m : ℕ) → p ≤ m → p ≤ m + 1
                 up_one p m le = omega (arith, le)
-        newest is c s (inr z) = by (either (lock_lines x h.path mode.Write q) (Say (body.Bound x (record { inc = o.inc; count = o.count + 1 })
-            (next_server q.turn (let k = e_entry in k.servers))) ∷ []) (subst (λ (k : Served Counted BoundReply). members.In (Say (body.Bound x c s)) k.outs) is (said_in c s z)))
+        newest is c s (inr z) = by (either (lock_lines x h.path mode.Write q) (Say (body.Bound x
+            (record { inc = o.inc; count = o.count + 1 })
+            (next_server q.turn (let k = e_entry in k.servers))) ∷ []) (subst (λ (k : Served Counted BoundReply). members.In (Say
+                (body.Bound x c s)) k.outs) is (said_in c s z)))
           where
             either : (xs ys : List Effect) → members.In (Say (body.Bound x c s)) (xs ++ ys) →
                 members.In (Say (body.Bound x c s)) xs ⊎ members.In (Say (body.Bound x c s)) ys
@@ -258,7 +268,8 @@ module _ (hd : Header) (w : World) (held : Holds hd KnowsLatest w) (few : HasFew
             same_less m = grind (arith, nat_tests)
 
             by : members.In (Say (body.Bound x c s)) (lock_lines x h.path mode.Write q) ⊎ members.In (Say (body.Bound x c s))
-                (Say (body.Bound x (record { inc = o.inc; count = o.count + 1 }) (next_server q.turn (let k = e_entry in k.servers))) ∷ []) →
+                (Say (body.Bound x (record { inc = o.inc; count = o.count + 1 }) (next_server q.turn
+                    (let k = e_entry in k.servers))) ∷ []) →
                 binding_less (record { inc = o.inc; count = o.count + 1 }) c ≡ false
             by (inl j) = absurd (unsaid (lock_lines x h.path mode.Write q) (locks_plain x h.path mode.Write q) c s j)
             by (inr (inl same)) = let one : record { inc = o.inc; count = o.count + 1 } ≡ c = cc same in
@@ -270,16 +281,20 @@ module _ (hd : Header) (w : World) (held : Holds hd KnowsLatest w) (few : HasFew
         answer_is b is = by b is
           where
             light : IsLight x h.path counted r → (k : Binding) (s j : ℕ) (ss : List ℕ) → r.reply ≡ Some (bound.Make k s j ss) → Greatest k
-            light l k s j ss same = named (subst (λ (z : Option BoundReply). Rattle.arj_law_cause.proofs.bindings.Binding.MakesAgain h.path q z) same l.again)
+            light l k s j ss same = named (subst (λ (z : Option BoundReply). Rattle.arj_law_cause.proofs.bindings.Binding.MakesAgain
+                h.path q z) same l.again)
               where
                 named : (m : Made) × (at_uid (top_of h.path) q.made ≡ Some m) × (m.recorded ≡ false) × (m.binding ≡ k) → Greatest k
                 named f = subst Greatest f.3 (again f.0 f.1 f.2 l.plain)
 
-            new : r ≡ bound_new o.inc x h.path e_entry counted (next_server q.turn (let k = e_entry in k.servers)) → (k : Binding) (s j : ℕ) (ss : List ℕ) →
+            new : r ≡ bound_new o.inc x h.path e_entry counted (next_server q.turn (let k = e_entry in k.servers)) →
+                (k : Binding) (s j : ℕ) (ss : List ℕ) →
                 r.reply ≡ Some (bound.Make k s j ss) → Greatest k
             new same k s j ss reply =
-                let made : bound.Make (record { inc = o.inc; count = o.count + 1 }) (next_server q.turn (let k = e_entry in k.servers)) o.inc
-                (let k = e_entry in k.stores) ≡ bound.Make k s j ss = some_is (sym (ap (λ (z : Served Counted BoundReply). z.reply) same) ∙ reply) in
+                let made : bound.Make (record { inc = o.inc; count = o.count + 1 }) (next_server q.turn
+                    (let k = e_entry in k.servers)) o.inc
+                (let k = e_entry in k.stores) ≡ bound.Make k s j ss = some_is (sym (ap (λ
+                    (z : Served Counted BoundReply). z.reply) same) ∙ reply) in
                 let one : record { inc = o.inc; count = o.count + 1 } ≡ k = cc made in subst Greatest one (newest same)
 
             by : (b : BoundReply) → r.reply ≡ Some b → ReplyFine Waited x g Greatest (Reply.Bound b)
@@ -290,7 +305,8 @@ module _ (hd : Header) (w : World) (held : Holds hd KnowsLatest w) (few : HasFew
                 include_of : (z : Bool) → is_include g ≡ z → is_include g ≡ true
                 include_of true is_it = is_it
                 include_of false is_it = absurd (call_binds o.inc x h.path avoid e_entry counted j ss
-                    (subst (λ z. (let k = bind_named o.inc x h.path z avoid e_entry counted in k.reply) ≡ Some (bound.Write j ss)) is_it same))
+                    (subst (λ z. (let k = bind_named o.inc x h.path z avoid e_entry counted in k.reply)
+                        ≡ Some (bound.Write j ss)) is_it same))
             by (bound.Live k s j m ss) same = tt
             by (bound.Conflict k m) same = tt
 
@@ -306,14 +322,17 @@ module _ (hd : Header) (w : World) (held : Holds hd KnowsLatest w) (few : HasFew
           by_object : is_over h.path o ≡ false → (q : Option Named) → at_number x o.objects ≡ q →
               Answer (naming.bind h.path x (is_include g) avoid (let d = a.disk in d.names) o)
           by_object fresh None none = subst Answer (sym ((λ j. cond (fresh j) (void o)
-              (on_counted x (bind_named o.inc x h.path (is_include g) avoid (listed_entry x (let d = a.disk in d.names))) o (at_number x o.objects)))
-              ∙ (λ j. on_counted x (bind_named o.inc x h.path (is_include g) avoid (listed_entry x (let d = a.disk in d.names))) o (none j))))
+              (on_counted x (bind_named o.inc x h.path (is_include g) avoid (listed_entry x (let d = a.disk in d.names))) o
+                  (at_number x o.objects)))
+              ∙ (λ j. on_counted x (bind_named o.inc x h.path (is_include g) avoid (listed_entry x (let d = a.disk in d.names))) o
+                  (none j))))
               (λ b is. none_is is)
           by_object fresh (Some q) found = answer_whole q found fresh
 
           by : (b : Bool) → is_over h.path o ≡ b → Answer (naming.bind h.path x (is_include g) avoid (let d = a.disk in d.names) o)
           by true over = subst Answer (sym (λ j. cond (over j) (void o)
-              (on_counted x (bind_named o.inc x h.path (is_include g) avoid (listed_entry x (let d = a.disk in d.names))) o (at_number x o.objects))))
+              (on_counted x (bind_named o.inc x h.path (is_include g) avoid (listed_entry x (let d = a.disk in d.names))) o
+                  (at_number x o.objects))))
               (λ b is. none_is is)
           by false fresh = by_object fresh (at_number x o.objects) refl
 
@@ -323,7 +342,8 @@ module _ (hd : Header) (w : World) (held : Holds hd KnowsLatest w) (few : HasFew
         (acts i (let d = a.disk in d.intents) y.coord).outs a.disk)
     binds_end fine one = subst (λ es. EndFine Waited x g Greatest n Says
         (whole n (with_coord y (acts i (let d = a.disk in d.intents) y.coord).part) es a.disk)) (sym outs)
-        (whole_bind Waited x g Greatest n Says h (is_include g) avoid (with_coord y (acts i (let d = a.disk in d.intents) y.coord).part) a.disk fine
+        (whole_bind Waited x g Greatest n Says h (is_include g) avoid (with_coord y (acts i
+            (let d = a.disk in d.intents) y.coord).part) a.disk fine
         (λ o at. (answers_so o at, λ c s j. (o, at, j))) 1 (own n one))
       where
         own : (k : ℕ) → k ≡ 1 → (1 == k) ≡ true
@@ -338,11 +358,13 @@ module _ (hd : Header) (w : World) (held : Holds hd KnowsLatest w) (few : HasFew
 
   none_over : (x : ℕ) (g : Goal) (G : Binding → Type 0) (S : Binding → ℕ → Type 0) → ((b : Binding) → G b → (c : Binding) (s : ℕ) →
       IsSaid w.lines (body.Bound x c s) ⊎ S c s → binding_less b c ≡ false) → (q : Ran) → EndFine Waited x g G n S q → NoneOver q
-  none_over x g G S least q fine v e c does now over = ⊎_elim (λ waited. waited) (λ f. absurd (by c.at refl over.step f.2 f.0)) (fine.0 v e c does now).1
+  none_over x g G S least q fine v e c does now over = ⊎_elim (λ waited. waited) (λ f. absurd (by c.at refl over.step f.2 f.0))
+      (fine.0 v e c does now).1
     where
       said : c.x ≡ x → IsSaid w.lines (body.Bound x over.binding over.server) ⊎ S over.binding over.server
       said same = ⊎_elim (λ line. inl line) (λ line. inr (fine.1 over.binding over.server line))
-          (subst (λ z. IsSaid w.lines (body.Bound z over.binding over.server) ⊎ members.In (Say (body.Bound z over.binding over.server)) q.outs) same over.line)
+          (subst (λ z. IsSaid w.lines (body.Bound z over.binding over.server) ⊎ members.In (Say
+              (body.Bound z over.binding over.server)) q.outs) same over.line)
 
       never : (k : Known) → k ≡ over.known → G k.binding → c.x ≡ x → ⊥
       never k same good on =
@@ -367,27 +389,34 @@ module _ (hd : Header) (w : World) (held : Holds hd KnowsLatest w) (few : HasFew
 
   -- a call or an include
   pub start_over : (i : Input) → is_act i ≡ true → AsksNode hd i → refusal_up hd i y.coord ≡ None → n ≡ 1 →
-      (p : Path) (x : ℕ) (g : Goal) (avoid : Binding) (req : ℕ) (c : Coord) → ((v : Uid) → doing_of v c ≡ doing_of v y.coord) → (known : Option Known) →
+      (p : Path) (x : ℕ) (g : Goal) (avoid : Binding) (req : ℕ) (c : Coord) → ((v : Uid) → doing_of v c ≡ doing_of v y.coord) →
+          (known : Option Known) →
       acts i (let d = a.disk in d.intents) y.coord ≡ goes_on (start p x g known avoid req) c →
-      NoneOver (whole n (with_coord y (acts i (let d = a.disk in d.intents) y.coord).part) (acts i (let d = a.disk in d.intents) y.coord).outs a.disk)
+      NoneOver (whole n (with_coord y (acts i (let d = a.disk in d.intents) y.coord).part) (acts i
+          (let d = a.disk in d.intents) y.coord).outs a.disk)
   start_over i about asks_it free one p x g avoid req c same None is =
       none_over x g (Greatest i about asks_it free x g h avoid outs) (Says i about asks_it free x g h avoid outs) (λ b good. good)
-      (whole n (with_coord y (acts i (let d = a.disk in d.intents) y.coord).part) (acts i (let d = a.disk in d.intents) y.coord).outs a.disk)
+      (whole n (with_coord y (acts i (let d = a.disk in d.intents) y.coord).part) (acts i
+          (let d = a.disk in d.intents) y.coord).outs a.disk)
       (binds_end i about asks_it free x g h avoid outs
       (subst (λ (z : Did Coord). CoordFine Waited x g (Greatest i about asks_it free x g h avoid outs) z.part) (sym is)
-      (goes_fine Waited x g (Greatest i about asks_it free x g h avoid outs) (start p x g None avoid req) c (actor p) refl (inr (refl, refl, tt))
+      (goes_fine Waited x g (Greatest i about asks_it free x g h avoid outs) (start p x g None avoid req) c (actor p) refl (inr
+          (refl, refl, tt))
       (λ u q s does now. waited_fine x g (Greatest i about asks_it free x g h avoid outs) u q s (sym (same u) ∙ does) now))) one)
     where
       h : Head
       h = record { path = p; req = req }
 
-      outs : (acts i (let d = a.disk in d.intents) y.coord).outs ≡ Send 1 (request (record { path = p; req = req }) (ask.Bind x (is_include g) avoid)) ∷ []
+      outs : (acts i (let d = a.disk in d.intents) y.coord).outs ≡ Send 1 (request (record { path = p; req = req }) (ask.Bind x
+          (is_include g) avoid)) ∷ []
       outs = ap (λ (z : Did Coord). z.outs) is
-  start_over i about asks_it free one p x g avoid req c same (Some k) is = subst (λ (z : Did Coord). NoneOver (whole n (with_coord y z.part) z.outs a.disk)) (sym is)
+  start_over i about asks_it free one p x g avoid req c same (Some k) is = subst (λ (z : Did Coord). NoneOver (whole n
+      (with_coord y z.part) z.outs a.disk)) (sym is)
       (calm_over x g (goes_on (start p x g (Some k) avoid req) c)
       (goes_fine Waited x g (λ b. ⊥) (start p x g (Some k) avoid req) c (actor p) refl (inr (refl, refl, tt))
       (λ u q s does now. waited_fine x g (λ b. ⊥) u q s (sym (same u) ∙ does) now))
-      (calm_ask (record { path = p; req = req }) (Words.next_ask (Words.ends_of (Words.root_of p) (let t = c.tree in t)) (start p x g (Some k) avoid req)) refl, tt))
+      (calm_ask (record { path = p; req = req }) (Words.next_ask (Words.ends_of (Words.root_of p) (let t = c.tree in t)) (start p x g
+          (Some k) avoid req)) refl, tt))
 
   -- a commit
   pub commit_over : (br : Words.Branch) (did : Did Coord) → did ≡ Words.commit_action br (let d = a.disk in d.intents) y.coord →
@@ -407,7 +436,8 @@ module _ (hd : Header) (w : World) (held : Holds hd KnowsLatest w) (few : HasFew
 
     pub call_over : (x : ℕ) (o : Words.Op) → AsksNode hd (Words.input.Call l x o) → refusal_up hd (Words.input.Call l x o) y.coord ≡ None →
         NoneOver (whole n (with_coord y (did_of (Words.input.Call l x o)).part) (did_of (Words.input.Call l x o)).outs a.disk)
-    call_over x o asks_it free = start_over (Words.input.Call l x o) refl asks_it free one br.path x (Run o) (let k = keeping_now x in k.avoid)
+    call_over x o asks_it free = start_over (Words.input.Call l x o) refl asks_it free one br.path x (Run o)
+        (let k = keeping_now x in k.avoid)
         (Words.next_req (actor br.path) y.coord) (Words.on_root (Words.root_of br.path) (Words.with_keeping x (keeping_now x))
         (record y.coord { tree = Words.uses_object br.path x y.coord.tree })) (λ v. refl)
         (Words.known_at_start (top_of br.path) x root_now y.coord (let k = keeping_now x in k.kept))

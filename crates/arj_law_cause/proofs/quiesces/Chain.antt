@@ -1,21 +1,32 @@
 -- What one call or include leads to within an event, where each message of it is to the node itself: naming makes one binding at most, and
 -- what waits behind it stands on the last one.
 use Rattle.arj_law_parts.proofs.Words
-use Words.{◌≡◌, ◌≢◌, ◌⊎◌, ◌∙◌, ◌≤◌, ◌+◌, ◌==◌, ◌||◌, ◌&&◌, ℕ, zero, suc, Bool, true, false, cond, List, [], ◌∷◌, ◌++◌, refl, sym, ap, subst, arith}
-use Words.{⊤, AllByRecursion, Option, Some, None, inl, inr, ⊎_elim, option_map, list_all, and_parts, map, filter, eqb-true, append-nil, all_both, AreAll}
-use Words.{Ask, Asked, Binding, Body, BoundReply, End, Head, Message, ObjectState, Uid, asks, object, request, Reply, actor, answers, asked_by, last_end}
-use Words.{reply_kind, response, heard, heard_by, heard_call, heard_doing, heard_none, heard_now, kept_at, mark_lines, moved_commit, root_heard, root_moved}
-use Words.{step_call, step_commit, waits_for_call, waits_for_commit, doomed_by, asks_machine, commits_in, At, AtActivate, AtBind, AtInvoke, AtLoad, AtNote}
-use Words.{CallEnd, CallStep, Ended, Goal, Include, Known, On, Run, Steps, answered, bound_by, is_include, live_known, loaded_state, made_known, moves, finds}
-use Words.{named_again, other_binding, same_binding, two_bindings, two_incs, with_inc, write_known, Aborts, Asks, Decides, Machine, Marked, Plan, Stays}
-use Words.{plan_of, waiting, Calling, Committing, Coord, Doing, Idle, Now, doing_of, is_free, on_doing, on_root, root_at, Did, Disk, Do, Effect, InDoubt}
-use Words.{Intent, Look, Old, Pair, Prep, Prepare, Ready, Already, Say, Send, Served, held_at, holder_of, is_prepared, prepare_answer, confirm, decide, ended}
-use Words.{acked, acked_by, acked_left, answer_decided, answer_query, answer_recorded, is_deferred, is_kept_commit, root_after, Naming, Handled, Here, Parts}
-use Words.{Ran, Took, Void, ack_told, by_reply, coord_heard, end_states, first_done, first_queued, handle, handle_all, handle_answer, handle_ask, handle_ends}
-use Words.{handle_other, handle_told, holders, if_naming, is_earlier, is_meant, load_by, load_held, most_rounds, naming_told, next_round, prepare_by}
-use Words.{prepare_states, query_about, ran, ran_handled, rounds, sends_answer, serve, store_told, taken, whole, with_coord, with_naming, with_server, binding_eq}
-use Words.{binding_less, at_uid, has, put_uid, without_number, is_server_effect, is_naming_effect, activate_own, bind_own, confirm_own, ends_own, invoke_own}
-use Words.{note_own, told_own, vote_own, at_place, ended_at, is_open, root_of}
+use Words.{◌≡◌, ◌⊎◌, ◌∙◌, ◌≤◌, ◌+◌, ◌==◌, ◌||◌, ◌&&◌, ℕ, zero, suc, Bool, true, false, cond, List, [], ◌∷◌, ◌++◌, refl, sym, ap, subst}
+use Words.{arith}
+use Words.{⊤, Option, Some, None, inl, inr, ⊎_elim, option_map, list_all, and_parts, map, filter, eqb-true, all_both, AreAll}
+use Words.{Ask, Asked, Binding, Body, BoundReply, End, Head, Message, ObjectState, Uid, asks, object, request, Reply, actor, answers}
+use Words.{asked_by, last_end}
+use Words.{reply_kind, response, heard, heard_by, heard_call, heard_doing, heard_none, heard_now, kept_at, moved_commit, root_heard}
+use Words.{root_moved}
+use Words.{step_call, step_commit, waits_for_call, waits_for_commit, commits_in, At, AtActivate, AtBind, AtInvoke, AtLoad, AtNote}
+use Words.{CallStep, Ended, Goal, Include, Known, On, Run, Steps, answered, bound_by, is_include, live_known, loaded_state, made_known}
+use Words.{moves, finds}
+use Words.{named_again, other_binding, same_binding, two_bindings, two_incs, with_inc, write_known, Aborts, Asks, Decides, Machine}
+use Words.{Marked, Plan, Stays}
+use Words.{plan_of, waiting, Calling, Committing, Coord, Doing, Idle, Now, doing_of, is_free, on_doing, on_root, Did, Disk, Do, Effect}
+use Words.{InDoubt}
+use Words.{Intent, Look, Old, Prep, Prepare, Ready, Already, Say, Send, Served, held_at, holder_of, is_prepared, prepare_answer, confirm}
+use Words.{decide, ended}
+use Words.{acked, acked_by, acked_left, answer_decided, answer_query, answer_recorded, is_deferred, is_kept_commit, root_after, Naming}
+use Words.{Handled, Here, Parts}
+use Words.{Ran, Took, Void, ack_told, by_reply, coord_heard, end_states, first_done, first_queued, handle, handle_all, handle_answer}
+use Words.{handle_ask, handle_ends}
+use Words.{handle_other, holders, if_naming, is_earlier, is_meant, load_by, load_held, most_rounds, naming_told, next_round, prepare_by}
+use Words.{prepare_states, query_about, ran, ran_handled, rounds, sends_answer, serve, store_told, taken, whole, with_coord, with_naming}
+use Words.{with_server, binding_eq}
+use Words.{binding_less, at_uid, has, put_uid, without_number, is_server_effect, is_naming_effect, activate_own, bind_own, confirm_own}
+use Words.{ends_own, invoke_own}
+use Words.{note_own, told_own, vote_own, ended_at, is_open, root_of}
 use Words.list as members
 use Words.ask
 use Words.body
@@ -32,15 +43,13 @@ use Words.recorded
 use Words.role
 use Words.server
 use Rattle.arj_law_runs.proofs.bindings.Handled.{outs_of, taken_weigh}
-use Rattle.arj_law_runs.proofs.bindings.Weights.{bind_ask, bind_by, binds, every_both, every_flat, every_map, weigh}
-use Rattle.arj_law_runs.proofs.calls.WorldSteps.{no_request}
+use Rattle.arj_law_runs.proofs.bindings.Weights.{bind_ask, bind_by, binds, weigh}
 use Rattle.arj_law_runs.proofs.coordinators.CoordUses.{on_cases}
 use Rattle.arj_law_runs.proofs.resting
 use resting.{Effects.ran_here, Hearing.all_doing, Hearing.doomed_work, Hearing.end_work}
-use Rattle.arj_law_runs.specs.calls.Bindings.{bound_by as made_by_line}
 use Rattle.arj_law_serial.proofs.holding.Says as saying
 use Rattle.arj_protocol.proofs.Ranks.{acked_above, heard_above, weaker}
-use Rattle.arj_protocol.specs.Rank.{is_above, rank}
+use Rattle.arj_protocol.specs.Rank.{is_above}
 use Rattle.arj_law_cause.proofs.bindings.Counted.{is_unbound, light_unbound}
 
 -- ---- effects that answer no Bind
@@ -131,7 +140,8 @@ module _ (W : Uid → Type 0) (x : ℕ) (g : Goal) (G : Binding → Type 0) wher
       same None = fine
       same (Some i) = inc_fine i (named_again old k) at fine old.inc
 
-      other : (b : Bool) → StepFine (cond b (moves (Some k) at) (finds (Some old) (calls.Changed 1 (two_bindings old.binding k.binding)))).step
+      other : (b : Bool) → StepFine (cond b (moves (Some k) at) (finds (Some old) (calls.Changed 1
+          (two_bindings old.binding k.binding)))).step
       other true = fine
       other false = tt
 
@@ -159,7 +169,8 @@ module _ (W : Uid → Type 0) (x : ℕ) (g : Goal) (G : Binding → Type 0) wher
       by true = inc_fine i old (AtNote k i) fine old.inc
       by false = fine
 
-  next_fine : (free : Bool) (kept : Option Known) (at : At) (r : Reply) → AtFine at → ReplyFine r → StepFine (answered free kept g at r).step
+  next_fine : (free : Bool) (kept : Option Known) (at : At) (r : Reply) → AtFine at → ReplyFine r →
+      StepFine (answered free kept g at r).step
   next_fine free kept (AtBind avoid) (Reply.Bound (bound.Live b s i n ss)) w y =
       bound_fine free (live_known b s i n ss) (AtInvoke (live_known b s i n ss) i) tt kept
   next_fine free kept (AtBind avoid) (Reply.Bound (bound.Make b s n [])) w y = tt
@@ -207,7 +218,8 @@ module _ (W : Uid → Type 0) (x : ℕ) (g : Goal) (G : Binding → Type 0) wher
       (λ same. let no_way : Idle ≡ Calling s = ap (λ (d : Doing). d.now) same.3 ∙ now in absurd (cc no_way))
       (λ other. all u q s other.1 now) (on_cases v (λ (d : Doing). record d { now = Idle }) c u q found)
 
-  step_fine : (s : Steps) (n : CallStep) (c : Coord) (u : Uid) → actor s.path ≡ u → W u ⊎ ((s.x ≡ x) × (s.goal ≡ g) × StepFine n) → CoordFine c →
+  step_fine : (s : Steps) (n : CallStep) (c : Coord) (u : Uid) → actor s.path ≡ u → W u ⊎ ((s.x ≡ x) × (s.goal ≡ g) × StepFine n) →
+      CoordFine c →
       CoordFine (step_call s n c).part
   step_fine s (On at) c u who fine all = goes_fine (record s { req = s.req + 1; at = at }) c u who fine all
   step_fine s (Ended e) c u who fine all = λ v q w found now.
@@ -216,7 +228,8 @@ module _ (W : Uid → Type 0) (x : ℕ) (g : Goal) (G : Binding → Type 0) wher
 
   -- a commit leaves no call but those that were
   pub ended_fine : (v : Uid) (h : End) (c : Coord) → CoordFine c → CoordFine (ended v h c)
-  ended_fine v h c all = idle_fine v (record c { tree = ended_at v h c.tree }) (λ u q s found now. all u q s (sym (end_work v h c u) ∙ found) now)
+  ended_fine v h c all = idle_fine v (record c { tree = ended_at v h c.tree }) (λ u q s found now. all u q s (sym (end_work v h c u)
+      ∙ found) now)
 
   commits_fine : (v : Uid) (m : Machine) (c : Coord) → CoordFine c → CoordFine (commits_in v m c)
   commits_fine v m c all u q s found now = ⊎_elim
@@ -238,16 +251,18 @@ module _ (W : Uid → Type 0) (x : ℕ) (g : Goal) (G : Binding → Type 0) wher
       noted_fine e there calling = ⊎_elim
           (λ same. ended_fine (actor p.path) ending.Commit c all u same.1 s same.2 (ap (λ (d : Doing). d.now) same.3 ∙ calling))
           (λ other. ended_fine (actor p.path) ending.Commit c all u e s other.1 calling)
-          (on_cases (actor p.path) (λ (d : Doing). record d { took = commit.participants p }) (ended (actor p.path) ending.Commit c) u e there)
+          (on_cases (actor p.path) (λ (d : Doing). record d { took = commit.participants p }) (ended
+              (actor p.path) ending.Commit c) u e there)
 
       by : (b : Bool) → doing_of u (let z = on_root (root_of p.path) (root_after p) (on_doing (actor p.path) (λ (d : Doing).
           record d { took = commit.participants p }) (ended (actor p.path) ending.Commit c)) in cond b (record z {
-        telling = put_uid (actor p.path) (record { root = root_of p.path; nodes = commit.participants p }) z.telling;
-      }) z) ≡ Some q → (actor s.path ≡ u) × (W u ⊎ ((s.x ≡ x) × (s.goal ≡ g) × AtFine s.at))
+            telling = put_uid (actor p.path) (record { root = root_of p.path; nodes = commit.participants p }) z.telling;
+          }) z) ≡ Some q → (actor s.path ≡ u) × (W u ⊎ ((s.x ≡ x) × (s.goal ≡ g) × AtFine s.at))
       by true there = noted_fine q there now
       by false there = noted_fine q there now
 
-  pub commit_fine : (v : Uid) (m : Marked) (intents : List (Uid × Intent)) (c : Coord) → CoordFine c → CoordFine (moved_commit v m intents c).part
+  pub commit_fine : (v : Uid) (m : Marked) (intents : List (Uid × Intent)) (c : Coord) → CoordFine c →
+      CoordFine (moved_commit v m intents c).part
   commit_fine v m intents c all = by m.step
     where
       by : (n : Words.CommitStep) → CoordFine (step_commit v n intents c).part
@@ -290,7 +305,8 @@ module _ (W : Uid → Type 0) (x : ℕ) (g : Goal) (G : Binding → Type 0) wher
       now d found (Committing m) is = one (waits_for_commit from a r m)
         where
           one : (b : Bool) → CoordFine
-              (cond {A = Served Coord (Unit {0})} b (heard_by (moved_commit a.act (commit.answered from m r) intents c)) (heard_none c)).part
+              (cond {A = Served Coord (Unit {0})} b (heard_by (moved_commit a.act (commit.answered from m r) intents c))
+                  (heard_none c)).part
           one true = commit_fine a.act (commit.answered from m r) intents c all
           one false = all
 
@@ -305,7 +321,8 @@ module _ (W : Uid → Type 0) (x : ℕ) (g : Goal) (G : Binding → Type 0) wher
       left i [] = all
       left i (n ∷ ns) = all
 
-      one : (i : Intent) (b : Bool) → CoordFine (cond {A = Served Coord (Unit {0})} b (acked_left v i intents c (without_number from i.nodes))
+      one : (i : Intent) (b : Bool) → CoordFine (cond {A = Served Coord (Unit {0})} b (acked_left v i intents c
+          (without_number from i.nodes))
           (record { part = c; outs = []; reply = None })).part
       one i true = left i (without_number from i.nodes)
       one i false = all
@@ -325,7 +342,8 @@ module _ (W : Uid → Type 0) (x : ℕ) (g : Goal) (G : Binding → Type 0) wher
         is_other (Send from (response (asked_by h) r)) ≡ true → GoodBy (sends_answer from h v outs (Some r))
     sent h v outs r fine others is = (fine, both_other outs (Send from (response (asked_by h) r) ∷ []) others (λ i. is i && true))
 
-    served_good : {S R : Type 0} (h : Head) (put : S → Parts) (say : R → Reply) (r : Served S R) → CoordFine (put r.part).coord → AllOther r.outs →
+    served_good : {S R : Type 0} (h : Head) (put : S → Parts) (say : R → Reply) (r : Served S R) → CoordFine (put r.part).coord →
+        AllOther r.outs →
         ((y : R) → is_other (Send from (response (asked_by h) (say y))) ≡ true) → GoodBy (Words.served from h put say r)
     served_good {S} {R} h put say r fine others each = by r.reply
       where
@@ -333,8 +351,10 @@ module _ (W : Uid → Type 0) (x : ℕ) (g : Goal) (G : Binding → Type 0) wher
         by None = refl
         by (Some y) = sent h (put r.part) r.outs (say y) fine others (each y)
 
-    naming_good : {R : Type 0} (h : Head) (say : R → Reply) (f : Naming → Served Naming R) (o : Option Naming) → ((m : Naming) → AllOther (f m).outs) →
-        ((y : R) → is_other (Send from (response (asked_by h) (say y))) ≡ true) → GoodBy (if_naming (λ m. Words.served from h (with_naming t) say (f m)) o)
+    naming_good : {R : Type 0} (h : Head) (say : R → Reply) (f : Naming → Served Naming R) (o : Option Naming) → ((m : Naming) →
+        AllOther (f m).outs) →
+        ((y : R) → is_other (Send from (response (asked_by h) (say y))) ≡ true) → GoodBy (if_naming (λ m. Words.served from h
+            (with_naming t) say (f m)) o)
     naming_good h say f None others each = refl
     naming_good h say f (Some m) others each = served_good h (with_naming t) say (f m) all (others m) each
 
@@ -350,7 +370,8 @@ module _ (W : Uid → Type 0) (x : ℕ) (g : Goal) (G : Binding → Type 0) wher
     prepare_good h states = by (is_prepared (actor h.path) d.store)
       where
         new : (a : Prep) → GoodBy (prepare_by n states from h t a)
-        new Ready = sent h t (Do Look ∷ Do (Prepare role.Store (actor h.path) states) ∷ Say (body.Prepared n (actor h.path) role.Store) ∷ [])
+        new Ready = sent h t (Do Look ∷ Do (Prepare role.Store (actor h.path) states) ∷ Say (body.Prepared n
+            (actor h.path) role.Store) ∷ [])
             (Reply.Prepared prepared.Yes) all refl refl
         new (Already u) = refl
         new (Old u v) = sent h t (Do Look ∷ []) (Reply.Prepared (prepared.Old u.num v)) all refl refl
@@ -373,8 +394,10 @@ module _ (W : Uid → Type 0) (x : ℕ) (g : Goal) (G : Binding → Type 0) wher
     asked_good h (ask.Vote i ties ends) none = let r = server.vote n h.path i ties ends t.server in
         served_good h (with_server t) Reply.Voted r all (server_other n r.outs (vote_own n h.path i ties ends t.server)) (λ y. refl)
     asked_good h (ask.Prepare states) none = prepare_good h states
-    asked_good h (ask.Confirm grants excluded included) none = naming_good h Reply.Confirmed (confirm h.path grants excluded included d.names) t.naming
-        (λ m. naming_other (let r = confirm h.path grants excluded included d.names m in r.outs) (confirm_own h.path grants excluded included d.names m))
+    asked_good h (ask.Confirm grants excluded included) none = naming_good h Reply.Confirmed
+        (confirm h.path grants excluded included d.names) t.naming
+        (λ m. naming_other (let r = confirm h.path grants excluded included d.names m in r.outs)
+            (confirm_own h.path grants excluded included d.names m))
         (λ y. refl)
 
     coord_good : (r : Served Coord (Unit {0})) → CoordFine r.part → AllOther r.outs → GoodBy (coord_heard t r)
@@ -419,7 +442,8 @@ module _ (W : Uid → Type 0) (x : ℕ) (g : Goal) (G : Binding → Type 0) wher
         decided true = refl
         decided false = refl
 
-        listed : (i : Intent) (b : Bool) → AllOther (cond b (Words.tell i.root true ((u, ending.Commit) ∷ []) from ∷ []) (answer_decided from u t.coord))
+        listed : (i : Intent) (b : Bool) → AllOther (cond b (Words.tell i.root true ((u, ending.Commit) ∷ []) from ∷ [])
+            (answer_decided from u t.coord))
         listed i true = refl
         listed i false = decided (is_kept_commit from u t.coord)
 
@@ -498,7 +522,8 @@ module _ (W : Uid → Type 0) (x : ℕ) (g : Goal) (G : Binding → Type 0) wher
     queue_sent v (Say b ∷ es) d m i = inr (queue_sent v es d m i)
     queue_sent v (Send to z ∷ es) d m i = by (to == n) refl i (queue_sent v es d m)
       where
-        by : (b : Bool) → (to == n) ≡ b → members.In m (cond b (first_queued z (ran n v es d)) (first_done (Send to z) (ran n v es d))).queue →
+        by : (b : Bool) → (to == n) ≡ b → members.In m (cond b (first_queued z (ran n v es d)) (first_done (Send to z)
+            (ran n v es d))).queue →
             (members.In m (ran n v es d).queue → members.In (Send n m) es) → members.In (Send n m) (Send to z ∷ es)
         by true same (inl is) ih = inl (λ i. Send (eqb-true to n same i) (is i))
         by true same (inr there) ih = inr (ih there)
@@ -553,7 +578,8 @@ module _ (W : Uid → Type 0) (x : ℕ) (g : Goal) (G : Binding → Type 0) wher
     ran_fine v outs d fine others less = (
       subst (λ (h : Here). CoordFine (let t = h.parts in t.coord)) (sym (ran_here n v outs d)) fine,
       λ m i. let j = queue_sent v outs d m i in (no_binds outs m less j, other_fine (answers m) (others_sent outs m others j)),
-      λ b s i. let no_way : false ≡ true = all_says outs (body.Bound x b s) (light_unbound n outs less) (said_back v outs d (body.Bound x b s) i) in cc no_way,
+      λ b s i. let no_way : false ≡ true = all_says outs (body.Bound x b s) (light_unbound n outs less) (said_back v outs d
+          (body.Bound x b s) i) in cc no_way,
     )
 
     one_fine : (m : Message) (h : Here) → CoordFine (let t = h.parts in t.coord) → (binds m ≡ 0) × AnswerFine (answers m) →
@@ -594,7 +620,8 @@ module _ (W : Uid → Type 0) (x : ℕ) (g : Goal) (G : Binding → Type 0) wher
           EndFine (rounds n j r)
       rounds_fine zero r fine queue outs = (fine, outs)
       rounds_fine (suc j) r fine queue outs = by r.queue (rounds_fine j (next_round n r) next.0 next.1
-          (λ b s i. ⊎_elim (λ a. outs b s a) (λ c. absurd (next.2 b s c)) (either_in r.outs (handle_all n r.queue r.here).outs (Say (body.Bound x b s)) i)))
+          (λ b s i. ⊎_elim (λ a. outs b s a) (λ c. absurd (next.2 b s c)) (either_in r.outs (handle_all n r.queue r.here).outs (Say
+              (body.Bound x b s)) i)))
         where
           next : RanFine (handle_all n r.queue r.here)
           next = all_fine r.queue r.here fine queue
@@ -611,14 +638,17 @@ module _ (W : Uid → Type 0) (x : ℕ) (g : Goal) (G : Binding → Type 0) wher
       whole_from : (t : Parts) (d : Disk) (to : ℕ) (m : Message) → (to == n) ≡ true →
           EndFine (rounds n most_rounds (record { here = record { disk = d; parts = t }; outs = []; queue = m ∷ [] })) →
           EndFine (whole n t (Send to m ∷ []) d)
-      whole_from t d to m same = subst (λ b. EndFine (rounds n most_rounds (cond b (first_queued m (ran n t [] d)) (first_done (Send to m) (ran n t [] d)))))
+      whole_from t d to m same = subst (λ b. EndFine (rounds n most_rounds (cond b (first_queued m (ran n t [] d)) (first_done
+          (Send to m) (ran n t [] d)))))
           (sym same)
 
       -- one that is no Bind
-      pub whole_one : (t : Parts) (d : Disk) (to : ℕ) (m : Message) → (to == n) ≡ true → CoordFine t.coord → binds m ≡ 0 → AnswerFine (answers m) →
+      pub whole_one : (t : Parts) (d : Disk) (to : ℕ) (m : Message) → (to == n) ≡ true → CoordFine t.coord → binds m ≡ 0 →
+          AnswerFine (answers m) →
           EndFine (whole n t (Send to m ∷ []) d)
       whole_one t d to m same fine none answers_fine = whole_from t d to m same
-          (rounds_fine most_rounds (record { here = record { disk = d; parts = t }; outs = []; queue = m ∷ [] }) fine queue (λ b s i. absurd i))
+          (rounds_fine most_rounds (record { here = record { disk = d; parts = t }; outs = []; queue = m ∷ [] }) fine queue
+              (λ b s i. absurd i))
         where
           queue : QueueFine (m ∷ [])
           queue k (inl is) = (ap binds (sym is) ∙ none, subst (λ z. AnswerFine (answers z)) is answers_fine)
@@ -638,10 +668,12 @@ module _ (W : Uid → Type 0) (x : ℕ) (g : Goal) (G : Binding → Type 0) wher
         unsent : (es : List Effect) (m : Message) → AreAll is_naming_effect es → members.In (Send n m) es → ⊥
         unsent [] m own i = absurd i
         unsent (e ∷ es) m own (inl is) =
-            let no_way : false ≡ true = ap is_naming_effect (sym is) ∙ (and_parts (is_naming_effect e) (list_all is_naming_effect es) own).0 in cc no_way
+            let no_way : false ≡ true = ap is_naming_effect (sym is) ∙ (and_parts (is_naming_effect e)
+                (list_all is_naming_effect es) own).0 in cc no_way
         unsent (e ∷ es) m own (inr i) = unsent es m (and_parts (is_naming_effect e) (list_all is_naming_effect es) own).1 i
 
-        answered_first : (o : Naming) → t.naming ≡ Some o → (y : Option BoundReply) → (naming.bind h.path x include avoid d.names o).reply ≡ y →
+        answered_first : (o : Naming) → t.naming ≡ Some o → (y : Option BoundReply) →
+            (naming.bind h.path x include avoid d.names o).reply ≡ y →
             FirstBy (sends_answer n h (with_naming t (naming.bind h.path x include avoid d.names o).part)
             (naming.bind h.path x include avoid d.names o).outs (option_map Reply.Bound y))
         answered_first o at None is = nothing
@@ -663,7 +695,8 @@ module _ (W : Uid → Type 0) (x : ℕ) (g : Goal) (G : Binding → Type 0) wher
             outs : List Effect
             outs = (naming.bind h.path x include avoid d.names o).outs ++ Send n (response (asked_by h) (Reply.Bound y)) ∷ []
 
-            last : (m : Message) → members.In (Send n m) (Send n (response (asked_by h) (Reply.Bound y)) ∷ []) → (binds m ≡ 0) × AnswerFine (answers m)
+            last : (m : Message) → members.In (Send n m) (Send n (response (asked_by h) (Reply.Bound y)) ∷ []) →
+                (binds m ≡ 0) × AnswerFine (answers m)
             last m (inl same) =
                 let one : response (asked_by h) (Reply.Bound y) ≡ m = cc same in
                 (ap binds (sym one), subst (λ z. AnswerFine (answers z)) one (inr ((gives o at).0 y is)))

@@ -1,8 +1,11 @@
 -- What a commit sends is neither a Bind nor an answer, and it leaves no call but those that were.
 use Rattle.arj_law_parts.proofs.Words
-use Words.{◌≡◌, ◌+◌, ◌++◌, ℕ, Bool, true, false, cond, List, [], ◌∷◌, refl, sym, subst, arith, ⊤, AllByRecursion, Option, Some, None, inl, inr, map}
-use Words.{Ask, Binding, Body, End, Head, Message, Uid, request, actor, answers, mark_lines, moved_commit, step_commit, asks_machine, commits_in, Goal}
-use Words.{Aborts, Asks, Decides, Machine, Marked, Plan, Stays, plan_of, Coord, Doing, doing_of, root_at, Disk, Do, Effect, Intent, Say, Send, decide, ended}
+use Words.{◌≡◌, ◌+◌, ◌++◌, ℕ, Bool, true, false, cond, List, [], ◌∷◌, refl, sym, subst, arith, ⊤, AllByRecursion, Option, Some, None, inl}
+use Words.{inr, map}
+use Words.{Ask, Binding, Body, End, Head, Message, Uid, request, actor, answers, mark_lines, moved_commit, step_commit, asks_machine}
+use Words.{commits_in, Goal}
+use Words.{Aborts, Asks, Decides, Machine, Marked, Plan, Stays, plan_of, Coord, Doing, doing_of, root_at, Disk, Do, Effect, Intent, Send}
+use Words.{decide, ended}
 use Words.{Here, Parts, most_rounds, ran, whole, has, root_of}
 use Words.list as members
 use Words.ask
@@ -34,8 +37,10 @@ calm_says u f c = by (doing_of u c)
 calm_tells : (root : Uid) (ack : Bool) (ends : List (Uid × End)) (nodes : List ℕ) → AreCalm (Words.tell_all root ack ends nodes)
 calm_tells root ack ends nodes = every_map IsCalm (Words.tell root ack ends) nodes (λ n. (refl, refl))
 
-calm_ends : (u : Uid) (e : End) (f : Words.Label → Body) (intents : List (Uid × Intent)) (c : Coord) → AreCalm (Words.ends_with u e f intents c).outs
-calm_ends u e f intents c = calm_both (Words.says u f c) (Words.tolds_of intents (ended u e c) u) (calm_says u f c) (by (Words.branch_of u (let t = ended u e c in t.tree)))
+calm_ends : (u : Uid) (e : End) (f : Words.Label → Body) (intents : List (Uid × Intent)) (c : Coord) →
+    AreCalm (Words.ends_with u e f intents c).outs
+calm_ends u e f intents c = calm_both (Words.says u f c) (Words.tolds_of intents (ended u e c) u) (calm_says u f c) (by
+    (Words.branch_of u (let t = ended u e c in t.tree)))
   where
     kinds : (k : Words.Kind) (p : Words.Path) → AreCalm (Words.tolds_by u k p intents (ended u e c))
     kinds Words.kind.Nested p = calm_tells _ _ _ _
@@ -77,10 +82,12 @@ calm_machine m c = each (Words.left_of m) c
 calm_decide : (p : Plan) (c : Coord) → AreCalm (decide p c).outs
 calm_decide p c = calm_both (Words.record_work (actor p.path) p ++ Words.says (actor p.path) body.Committed c)
     (map (Words.decided_told (root_of p.path) (actor p.path) p) p.sent)
-    (calm_both (Words.record_work (actor p.path) p) (Words.says (actor p.path) body.Committed c) (work (commit.has_record p)) (calm_says (actor p.path) body.Committed c))
+    (calm_both (Words.record_work (actor p.path) p) (Words.says (actor p.path) body.Committed c) (work (commit.has_record p)) (calm_says
+        (actor p.path) body.Committed c))
     (every_map IsCalm (Words.decided_told (root_of p.path) (actor p.path) p) p.sent (λ n. told (has (commit.participants p) n) n))
   where
-    work : (b : Bool) → AreCalm (cond b (Do (Words.PutIntent (actor p.path) (record { root = root_of p.path; nodes = commit.participants p })) ∷ []) [])
+    work : (b : Bool) → AreCalm (cond b (Do (Words.PutIntent (actor p.path)
+        (record { root = root_of p.path; nodes = commit.participants p })) ∷ []) [])
     work true = (tt, tt)
     work false = tt
 
@@ -91,7 +98,8 @@ calm_decide p c = calm_both (Words.record_work (actor p.path) p ++ Words.says (a
 
 calm_moved : (u : Uid) (m : Marked) (intents : List (Uid × Intent)) (c : Coord) → AreCalm (moved_commit u m intents c).outs
 calm_moved u m intents c = calm_both (mark_lines u m.marks c) (step_commit u m.step intents c).outs
-    (every_flat IsCalm (λ (k : ℕ × ℕ). Words.says u (λ l. body.Excluded l k.0 k.1) c) m.marks (λ k. calm_says u (λ l. body.Excluded l k.0 k.1) c)) (by m.step)
+    (every_flat IsCalm (λ (k : ℕ × ℕ). Words.says u (λ l. body.Excluded l k.0 k.1) c) m.marks (λ k. calm_says u
+        (λ l. body.Excluded l k.0 k.1) c)) (by m.step)
   where
     by : (n : Words.CommitStep) → AreCalm (step_commit u n intents c).outs
     by (Stays k) = tt
@@ -118,7 +126,8 @@ module _ (br : Words.Branch) (intents : List (Uid × Intent)) (c : Coord) where
       open_one Words.kind.Constituent = calm_top
       open_one Words.kind.Independent = calm_top
 
-      by : (b : Bool) (k : Words.Kind) → AreCalm (cond b (Words.aborts_with (actor br.path) Words.cause.Doomed intents c) (Words.commit_open br intents c k)).outs
+      by : (b : Bool) (k : Words.Kind) → AreCalm (cond b (Words.aborts_with (actor br.path) Words.cause.Doomed intents c)
+          (Words.commit_open br intents c k)).outs
       by true k = calm_ends (actor br.path) ending.Abort (λ l. body.Aborted l Words.cause.Doomed) intents c
       by false k = open_one k
 
@@ -135,7 +144,8 @@ module _ (br : Words.Branch) (intents : List (Uid × Intent)) (c : Coord) where
       open_one Words.kind.Independent = commit_fine W x g G (actor br.path) started intents c all
 
       by : (b : Bool) (k : Words.Kind) →
-          CoordFine W x g G (cond b (Words.aborts_with (actor br.path) Words.cause.Doomed intents c) (Words.commit_open br intents c k)).part
+          CoordFine W x g G (cond b (Words.aborts_with (actor br.path) Words.cause.Doomed intents c)
+              (Words.commit_open br intents c k)).part
       by true k = ended_fine W x g G (actor br.path) ending.Abort c all
       by false k = open_one k
 

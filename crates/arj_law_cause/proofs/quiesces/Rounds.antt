@@ -1,9 +1,12 @@
 -- The stated round, and all quiesces of a run, by its events and its journal.
 use Rattle.arj_law_parts.proofs.Words
-use Words.{◌≡◌, ◌∙◌, ◌+◌, ◌==◌, ◌&&◌, ◌||◌, not, ℕ, zero, suc, cond, Bool, true, false, List, [], ◌∷◌, ◌++◌, map, refl, sym, ap, subst, Option, Some, None, ◌⊎◌, inl, inr, ⊎_elim}
-use Words.{AllByRecursion, Contains, In, in_to, and_parts, eqb-true, list_all, list_any, bytes_eq, bytes_eq-Decides, Body, Event, Header, Line, Label, Uid, Move}
-use Words.{World, all_moved, moved, world_by, world_from, journal_by, Coord, Doing, Labelled, Node, Parts, at_place, coord_in, doing_of, is_node, is_own, is_waiting_now}
-use Words.{name, label_cmp, lookup, is_at, number_of, node_of, see, slice_get, AreGivenUp, AreUp, EndsQuiet, NobodyWaits}
+use Words.{◌≡◌, ◌∙◌, ◌+◌, ◌==◌, ◌||◌, not, ℕ, zero, suc, cond, Bool, true, false, List, [], ◌∷◌, ◌++◌, map, refl, sym, ap, subst, Option}
+use Words.{Some, None, ◌⊎◌, inl, inr, ⊎_elim}
+use Words.{AllByRecursion, Contains, In, in_to, and_parts, eqb-true, list_all, list_any, bytes_eq-Decides, Body, Event, Header, Label}
+use Words.{Uid, Move}
+use Words.{World, all_moved, moved, world_by, world_from, journal_by, Doing, Labelled, Node, Parts, at_place, doing_of, is_own}
+use Words.{is_waiting_now}
+use Words.{name, lookup, is_at, number_of, see, slice_get, AreGivenUp, AreUp, EndsQuiet, NobodyWaits}
 use Words.{append-nil}
 use Rattle.arj_model.specs.Disks.{Disks}
 use Rattle.arj_promise.specs.Promise.{HasDisks}
@@ -132,9 +135,11 @@ module _ (hd : Header) (form : HeaderInForm hd) (p : Past) (v : World) (s : Kept
     up_given : (x : Move) × Contains gs x × GivesUp v k t.coord u x
     up_given =
         let a = its.0 in
-        let waits_for_it : is_waiting p a.label ≡ true = ap (is_waiting p) its.2 ∙ ties.waits_so hd form p v s.all k n t u q there live does waits in
+        let waits_for_it : is_waiting p a.label ≡ true = ap (is_waiting p) its.2 ∙ ties.waits_so hd form p v s.all k n t u q there live
+            does waits in
         let some : list_any (λ (d : Did). gives_up a.label d.event) ds ≡ true = open_it (is_waiting p a.label) _ waits_for_it
-        (ties.all_there (λ (a : Act). not (is_waiting p a.label) || list_any (λ (d : Did). gives_up a.label d.event) ds) (acts p.lines) a its.1 all) in
+        (ties.all_there (λ (a : Act). not (is_waiting p a.label) || list_any (λ (d : Did). gives_up a.label d.event) ds)
+            (acts p.lines) a its.1 all) in
         let d = some_in (λ (d : Did). gives_up a.label d.event) ds some in
         let g = gives_is a.label (let z = d.0 in z.event) d.2 in
         let x = move_of gs ds same d.0 d.1 in
@@ -167,7 +172,8 @@ module _ (hd : Header) (form : HeaderInForm hd) (p : Past) (v : World) (s : Kept
 
 module _ (hd : Header) (form : HeaderInForm hd) where
   -- a quiesce at the end of a run, in words of this world
-  quiet_at : (front : Run hd) (w : World) → world_by hd front ≡ w → (n : Move) (p : Past) (bodies : List Body) → Kept hd form p w → w.over ≡ false →
+  quiet_at : (front : Run hd) (w : World) → world_by hd front ≡ w → (n : Move) (p : Past) (bodies : List Body) → Kept hd form p w →
+      w.over ≡ false →
       joined.Said hd form p (event_of n) bodies → Kept hd form (next p (event_of n) bodies) (moved n w) → IsWhole hd p (event_of n) bodies →
       ((moved n w).over ≡ false) × AreUp (moved n w) × (EndsQuiet (moved n w) → SaysQuiet bodies)
   quiet_at front w is n p bodies s on step after whole =
@@ -261,7 +267,8 @@ module _ (hd : Header) (form : HeaderInForm hd) where
               × (EndsQuiet (moved n (all_moved g.done (moved m (world_by hd front)))) → SaysQuiet second.bodies)
           two = quiet_at longer (all_moved g.done (moved m (world_by hd front))) longer_is n p2 second.bodies z.0 z.1 z.3
               (subst (λ e. Kept hd form (next p2 e second.bodies) (moved n (all_moved g.done (moved m (world_by hd front))))) z.2
-              (walked.kept_first hd form left (next p2 second.event second.bodies) (moved n (all_moved g.done (moved m (world_by hd front)))) rest z.4))
+              (walked.kept_first hd form left (next p2 second.event second.bodies) (moved n (all_moved g.done (moved m
+                  (world_by hd front)))) rest z.4))
               (subst (λ e. IsWhole hd p2 e second.bodies) z.2 round.second_whole)
 
           who : AreGivenUp g.done (moved m (world_by hd front)) ⊎ NobodyWaits (all_moved g.done (moved m (world_by hd front)))
@@ -313,7 +320,8 @@ module _ (hd : Header) (form : HeaderInForm hd) where
       q : EndsQuiet (world_by hd r)
       q = subst EndsQuiet (sym stays) quiet
 
-  ended_holds : (r : Run hd) → IsInForm hd r → (done left : List Move) (p : Past) (round : List Did) (second : Did) → r.moves ≡ done ++ left →
+  ended_holds : (r : Run hd) → IsInForm hd r → (done left : List Move) (p : Past) (round : List Did) (second : Did) →
+      r.moves ≡ done ++ left →
       HasEnded (record r { moves = done }) left p round second [] → journal_by hd r ≡ (behind p round).lines → (disks : Disks) →
       HasDisks hd r disks → HoldAllStates hd r.start.marks (journal_by hd r) disks
   ended_holds r its done left p round second are e lines = end_holds r its e.world e.left e.past e.quiet e.on e.walked.0 e.walked.1
@@ -333,7 +341,8 @@ module _ (hd : Header) (form : HeaderInForm hd) where
         (lines_of before first giveups second are none);
   }
     where
-      lines_of : (before : List Did) (first : Did) (giveups : List Did) (second : Did) → did ≡ before ++ (first ∷ (giveups ++ (second ∷ []))) →
+      lines_of : (before : List Did) (first : Did) (giveups : List Did) (second : Did) → did
+          ≡ before ++ (first ∷ (giveups ++ (second ∷ []))) →
           written.ending ≡ [] → journal_by hd r
           ≡ (behind (behind (at_start r.start) before) (first ∷ (giveups ++ (second ∷ [])))).lines
       lines_of before first giveups second are none = written.lines ∙ (λ i. (behind (at_start r.start) did).lines ++ none i)

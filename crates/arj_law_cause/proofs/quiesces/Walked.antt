@@ -1,7 +1,8 @@
 -- A run event by event, with what each wrote, and the worlds between them.
 use Rattle.arj_law_parts.proofs.Words
-use Words.{◌≡◌, ◌∙◌, ◌+◌, ◌≤◌, ◌==◌, length-append, most_events, ℕ, Bool, true, false, cond, List, [], ◌∷◌, ◌++◌, length, map, take, suc, refl, sym, ap, subst, arith, nat_tests}
-use Words.{append-nil, append_assoc, AllByRecursion, Body, Event, Header, Line, World, Move, Start, all_moved, moved, world_from, journal_by, world_by}
+use Words.{◌≡◌, ◌∙◌, ◌+◌, ◌≤◌, ◌==◌, length-append, most_events, ℕ, Bool, true, false, cond, List, [], ◌∷◌, ◌++◌, length, map, take, suc}
+use Words.{refl, sym, ap, subst, arith, nat_tests}
+use Words.{append-nil, AllByRecursion, Body, Event, Header, Line, World, Move, Start, all_moved, moved, world_from, journal_by, world_by}
 use Words.{◌⊎◌, inl, inr, first_reason, reasons, run_unless}
 use Words.body
 use Rattle.arj_journal.specs.ScriptForm.{HeaderInForm}
@@ -29,7 +30,8 @@ module _ (hd : Header) (form : HeaderInForm hd) where
   abbrev pub IsWalked : List Move → Past → World → List Did → Type 0
   IsWalked ms p w [] = Kept hd form p w × ((ms ≡ []) ⊎ ((all_moved ms w).over ≡ true))
   IsWalked [] p w (d ∷ ds) = ⊥
-  IsWalked (m ∷ ms) p w (d ∷ ds) = Kept hd form p w × (w.over ≡ false) × (d.event ≡ event_of m) × joined.Said hd form p (event_of m) d.bodies
+  IsWalked (m ∷ ms) p w (d ∷ ds) = Kept hd form p w × (w.over ≡ false) × (d.event ≡ event_of m)
+      × joined.Said hd form p (event_of m) d.bodies
       × IsWalked ms (next p d.event d.bodies) (moved m w) ds
 
   pub kept_first : (ms : List Move) (p : Past) (w : World) (ds : List Did) → IsWalked ms p w ds → Kept hd form p w
@@ -58,7 +60,8 @@ module _ (hd : Header) (form : HeaderInForm hd) where
     }) (sym s.limits ∙ on);
   }
 
-  none_run : (ms : List Move) (p : Past) (w : World) (ending : List Line) → Kept hd form p w → (ms ≡ []) ⊎ ((all_moved ms w).over ≡ true) → ran ms w ≡ [] →
+  none_run : (ms : List Move) (p : Past) (w : World) (ending : List Line) → Kept hd form p w →
+      (ms ≡ []) ⊎ ((all_moved ms w).over ≡ true) → ran ms w ≡ [] →
       (all_moved ms w).lines ≡ w.lines ++ ending → (all_moved ms w).event ≡ w.event → AreEnding w.event ending → Walk ms p w
   none_run ms p w ending s stop none lines event last =
       let lines_of = joined.written_lines hd form p w (let i = s.all in i.0.0.0) in
@@ -128,7 +131,8 @@ module _ (hd : Header) (form : HeaderInForm hd) where
       by : (b : Bool) → w.over ≡ b → Rest → Walk (m ∷ ms) p w
       by true over rest =
           let o = over_stays (m ∷ ms) w over in
-          none_run (m ∷ ms) p w [] s (inr (still_over (m ∷ ms) w over)) (λ i. cond (over i) [] (cond ((moved m w).event == w.event) [] (event_of m ∷ ran ms (moved m w))))
+          none_run (m ∷ ms) p w [] s (inr (still_over (m ∷ ms) w over)) (λ i. cond (over i) [] (cond ((moved m w).event == w.event) []
+              (event_of m ∷ ran ms (moved m w))))
           (o.0 ∙ sym (append-nil w.lines)) o.1 tt
       by false on rest = went on rest (joined.goes hd form m p w stops.0 s.all on)
 
@@ -157,7 +161,8 @@ module _ (hd : Header) (form : HeaderInForm hd) where
 
   -- what each event leaves and what it wrote holds along the run
   pub along : (Step : Past → Event → List Body → Type 0) (st : Start) (formed : IsFormed hd st) →
-      ((front : Run hd) (m : Move) (p : Past) (bodies : List Body) → HasFewBindings (moved m (world_by hd front)).lines → Kept hd form p (world_by hd front) →
+      ((front : Run hd) (m : Move) (p : Past) (bodies : List Body) → HasFewBindings (moved m (world_by hd front)).lines →
+          Kept hd form p (world_by hd front) →
       (let x = world_by hd front in x.over) ≡ false → joined.Said hd form p (event_of m) bodies →
       Kept hd form (next p (event_of m) bodies) (moved m (world_by hd front)) → Step p (event_of m) bodies) →
       (front : Run hd) (ds : List Did) (ms : List Move) (p : Past) → length front.moves + length ms ≤ most_events →
@@ -166,7 +171,8 @@ module _ (hd : Header) (form : HeaderInForm hd) where
   along Step st formed gives front (d ∷ ds) [] p short walked = absurd walked
   along Step st formed gives front (d ∷ ds) (m ∷ ms) p short walked =
       let on : IsWalked ms (next p d.event d.bodies) (world_by hd (then front (m ∷ []))) ds =
-      subst (λ x. IsWalked ms (next p d.event d.bodies) x ds) (sym (more_moves front.moves (m ∷ []) (world_from hd front.start))) walked.4 in (
+      subst (λ x. IsWalked ms (next p d.event d.bodies) x ds) (sym (more_moves front.moves (m ∷ [])
+          (world_from hd front.start))) walked.4 in (
         d.bodies,
         subst (λ e. Step p e d.bodies) (sym walked.2) (gives front m p d.bodies few walked.0 walked.1 walked.3
             (subst (λ e. Kept hd form (next p e d.bodies) (moved m (world_by hd front))) walked.2
@@ -195,7 +201,8 @@ module _ (hd : Header) (form : HeaderInForm hd) where
   pub run_walk : (r : Run hd) → IsInForm hd r → Walk r.moves (at_start r.start) (world_from hd r.start)
   run_walk r its = walk r.moves (at_start r.start) (world_from hd r.start) its.stops (first_kept r.start r.formed)
 
-  pub run_written : (r : Run hd) (its : IsInForm hd r) → let k = run_walk r its in WasWritten r.start (run_events hd r) (journal_by hd r) k.did
+  pub run_written : (r : Run hd) (its : IsInForm hd r) → let k = run_walk r its in WasWritten r.start (run_events hd r)
+      (journal_by hd r) k.did
   run_written r its =
       let k = run_walk r its in
       let long : (world_by hd r).event ≡ length (ran r.moves (world_from hd r.start)) = k.count ∙ k.total ∙ first (length k.did) ∙ many in
@@ -205,7 +212,8 @@ module _ (hd : Header) (form : HeaderInForm hd) where
         events = k.events ∙ sym es;
         ending = k.ending;
         lines = k.lines;
-        last = subst (λ n. AreEnding n k.ending) (k.total ∙ first (length k.did) ∙ many ∙ ap (λ (xs : List Event). length xs) (sym es)) k.last;
+        last = subst (λ n. AreEnding n k.ending) (k.total ∙ first (length k.did) ∙ many ∙ ap (λ (xs : List Event). length xs)
+            (sym es)) k.last;
       }
     where
       first : (n : ℕ) → 0 + n ≡ n
@@ -216,7 +224,8 @@ module _ (hd : Header) (form : HeaderInForm hd) where
 
   -- what each event leaves and what it wrote holds of the events of a run
   pub runs_so : (Step : Past → Event → List Body → Type 0) → ((front : Run hd) (m : Move) (p : Past) (bodies : List Body) →
-      HasFewBindings (moved m (world_by hd front)).lines → Kept hd form p (world_by hd front) → (let x = world_by hd front in x.over) ≡ false → joined.Said hd form p (event_of m) bodies →
+      HasFewBindings (moved m (world_by hd front)).lines → Kept hd form p (world_by hd front) →
+          (let x = world_by hd front in x.over) ≡ false → joined.Said hd form p (event_of m) bodies →
       Kept hd form (next p (event_of m) bodies) (moved m (world_by hd front)) → Step p (event_of m) bodies) → (r : Run hd) → IsInForm hd r →
       Runs Step r.start (run_events hd r) (journal_by hd r)
   runs_so Step gives r its =
@@ -225,7 +234,8 @@ module _ (hd : Header) (form : HeaderInForm hd) where
         behind (at_start r.start) k.did,
         w.ending,
         subst (λ es. Along Step (at_start r.start) es (behind (at_start r.start) k.did)) w.events
-            (along Step r.start r.formed gives (record r { moves = [] }) k.did r.moves (at_start r.start) (none (length r.moves) its.few) k.walked),
+            (along Step r.start r.formed gives (record r { moves = [] }) k.did r.moves (at_start r.start) (none
+                (length r.moves) its.few) k.walked),
         w.lines,
         w.last,
       )

@@ -20,7 +20,8 @@ asking _ = None
 
 -- On one node, where an event asks something of an action that didn't wait, that action waits for nothing behind it.
 abbrev pub AloneStep : Header → Past → Event → List Body → Type 0
-AloneStep hd past e bodies = hd.nodes ≡ 1 → (l : List ℕ) → asking e ≡ Some l → is_waiting past l ≡ false → is_waiting (next past e bodies) l ≡ false
+AloneStep hd past e bodies = hd.nodes ≡ 1 → (l : List ℕ) → asking e ≡ Some l → is_waiting past l ≡ false →
+    is_waiting (next past e bodies) l ≡ false
 
 -- so it is of each event of a run
 abbrev pub RunsAnswerAlone : Type 0

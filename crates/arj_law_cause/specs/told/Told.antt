@@ -18,7 +18,7 @@ pub record TellsQuiesces (hd : Header) (st : Start) (es : List Event) (journal :
   pub answers : Runs (QuiescesStep hd) st es journal
   -- a round of such quiesces, with giveups of what waits between them, ends with a line that all is quiet
   pub rounds : EndsRounds hd st es journal
-  -- on one node nobody waits for a quiesce: what is asked is answered in its own event, but for calls that are overtaken
+  -- on one node nobody waits for a quiesce: what is asked is answered in its own event
   pub alone : Runs (AloneStep hd) st es journal
 
 -- All of this, and what each event writes.
