@@ -1,17 +1,21 @@
 -- What quiesces must not do: leave a call, an include or a commit waiting, as where a tick forgets one kind of request; lose a call; or say
 -- that something is left to do where nothing is.
-use Rattle.std.specs.Prelude.{◌≡◌, refl, ◌⊎◌, List, [], ◌∷◌, ◌++◌, true, false, Some, codes}
-use Rattle.std.proofs.Common.{sym, ⊎_elim}
+use Rattle.std.specs.Prelude.{◌≡◌, ℕ, refl, ◌⊎◌, List, [], ◌∷◌, ◌++◌, true, false, Some, codes}
+use Rattle.std.proofs.Common.{arith, sym, ⊎_elim}
 use Rattle.arj_class.specs.declared.op.Op.TheVariants as op
+use Rattle.arj_class.specs.declared.value.Value.TheVariants as value
 use Rattle.arj_journal.specs.declared.body.Body.{Body}
 use Rattle.arj_journal.specs.declared.body.Body.TheVariants as body
+use Rattle.arj_journal.specs.declared.body.Difference.TheVariants as difference
 use Rattle.arj_journal.specs.declared.body.FrameKind.TheVariants as frame
 use Rattle.arj_journal.specs.declared.event.Event.TheVariants as event
 use Rattle.arj_journal.specs.declared.event.FrameNo.TheVariants.{Number}
+use Rattle.arj_journal.specs.declared.header.Header.{Header}
 use Rattle.arj_model.specs.Past.{Past, nothing_yet}
+use Rattle.arj_law_cause.specs.rounds.Alone.{AloneStep}
 use Rattle.arj_law_cause.specs.rounds.Quiesces.{Answers, IsWhole, QuiescesStep, SaysQuiet}
 use Rattle.arj_text.specs.Label.{name}
-use Rattle.arj_cause_tests.proofs.Words.{Wrote, end_from, l}
+use Rattle.arj_cause_tests.proofs.Words.{Wrote, b, end_from, l, nodes, object_line}
 use Rattle.arj_cause_tests.proofs.WrongEvents.{begins, two_nodes}
 
 -- an action that asked, whose request was lost
@@ -60,3 +64,30 @@ down_free w = never_on w.up
 
 halt_free : IsWhole two_nodes (end_from nothing_yet (begins ∷ [])) event.Quiesce (body.Halted 2 ∷ silent) → ⊥
 halt_free w = never_on (sym w.whole)
+
+-- ---- on one node
+
+abbrev one_node : Header
+one_node = nodes 1 (object_line 1 (value.Counter 0) (1 ∷ []) (1 ∷ []) ∷ [])
+
+-- what an event asks may not wait behind it: a call
+call_waits : AloneStep one_node (end_from nothing_yet (begins ∷ [])) (event.Call (l 65) 1 (op.Add 1)) (body.Bound 1 (b 1 1) 1 ∷ []) → ⊥
+call_waits s = never_on (sym (s refl (name (l 65)) refl refl))
+
+-- also where two bindings of its object were made
+call_overtaken : AloneStep one_node (end_from nothing_yet (begins
+    ∷ (event.Call (l 65) 1 (op.Add 1), body.Bound 1 (b 1 1) 1 ∷ body.Changed (l 65) 1 (difference.Bind (b 1 1) (b 1 2)) ∷ []) ∷ []))
+    (event.Call (l 65) 1 (op.Add 1)) (body.Bound 1 (b 1 2) 1 ∷ []) → ⊥
+call_overtaken s = never_on (sym (s refl (name (l 65)) refl refl))
+
+-- an include
+include_waits : AloneStep one_node (end_from nothing_yet (begins ∷ [])) (event.Include (l 65) 1 1) [] → ⊥
+include_waits s = never_on (sym (s refl (name (l 65)) refl refl))
+
+-- or a commit
+commit_waits : AloneStep one_node (end_from nothing_yet (begins ∷ [])) (event.Commit (l 65)) (body.Committing (l 65) ∷ []) → ⊥
+commit_waits s = never_on (sym (s refl (name (l 65)) refl refl))
+
+-- where there are two nodes they may
+two_wait : AloneStep two_nodes (end_from nothing_yet (begins ∷ [])) (event.Call (l 65) 1 (op.Add 1)) (body.Sent 1 1 2 frame.Bind ∷ [])
+two_wait two = let no_way : 2 ≡ 1 = two in absurd (omega (arith, no_way))
