@@ -9,6 +9,8 @@ pub mod Every
 pub mod Tabled
 pub mod Bound
 pub mod Asking
+pub mod Since
+pub mod Ones
 pub mod Copies
 pub mod Posts
 pub mod Handled

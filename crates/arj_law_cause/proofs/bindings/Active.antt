@@ -34,6 +34,7 @@ use Rattle.arj_law_cause.proofs.bindings.Asking.{AskedSo}
 use Rattle.arj_law_cause.proofs.bindings.Copies.{HasCopies, IsUnder, StaysBy, active_by, is_activate, is_idle, message_copies}
 use Rattle.arj_law_cause.proofs.bindings.Counted.{IsGiven}
 use Rattle.arj_law_cause.proofs.bindings.Lines.{IsLined, copies}
+use Rattle.arj_law_cause.proofs.bindings.Since.{met_in}
 use Rattle.arj_law_cause.proofs.bindings.Said.{KnowsBindings, bindings_keep}
 use Rattle.arj_law_cause.proofs.kinds.Lines.{tested_row}
 use Rattle.arj_law_cause.proofs.kinds.Nodes.{wide_all}
@@ -139,7 +140,7 @@ module _ (hd : Header) (st : Start) (q : Past) (e : Event) where
   -- ---- an Activate
 
   module _ (k from : ℕ) (t : Parts) (h : Head) (b : Binding) (u : ObjectState) (ls : List Line)
-      (lined : IsLined ls (let i = u.uid in i.num) b k) (had : HasCopies k t.server ls) (given : IsGiven st ls) where
+      (lined : IsLined ls (let i = u.uid in i.num) b k) (had : HasCopies k t.server st ls) (given : IsGiven st ls) where
     abbrev x : ℕ
     x = let i = u.uid in i.num
 
@@ -203,8 +204,9 @@ module _ (hd : Header) (st : Start) (q : Past) (e : Event) where
           Some (record { number = k; disk = d; live = Some t })
       its_place = λ i. cond (same_number k i) (Some (record { number = k; disk = d; live = Some t })) (M.seen.nodes k)
 
-      had : HasCopies k t.server M.seen.lines
-      had = known.2.1.1.1 k (record { number = k; disk = d; live = Some t }) t its_place refl
+      had : HasCopies k t.server st M.seen.lines
+      had = subst (λ z. HasCopies k t.server z M.seen.lines) h.start
+          (known.2.1.1.1 k (record { number = k; disk = d; live = Some t }) t its_place refl)
 
       given : IsGiven st M.seen.lines
       given = subst (λ z. IsGiven z M.seen.lines) h.start (known.2.0.1.1.0)
@@ -229,7 +231,7 @@ module _ (hd : Header) (st : Start) (q : Past) (e : Event) where
 
       asked : (o : Option (Head × Ask)) → asks m ≡ o →
           AskedSo (IsLined M.seen.lines)
-          (active_by M.seen.lines) k o → Well outs M.seen.lines
+          (active_by M.seen.lines) (met_in (let S = M.seen in S.start) M.seen.lines) k o → Well outs M.seen.lines
       asked None at its = others None at refl
       asked (Some (hh, ask.Bind x include avoid)) at its = others (Some (hh, ask.Bind x include avoid)) at refl
       asked (Some (hh, ask.Load x)) at its = others (Some (hh, ask.Load x)) at refl
