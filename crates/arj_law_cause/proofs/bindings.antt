@@ -11,6 +11,7 @@ pub mod Bound
 pub mod Asking
 pub mod Since
 pub mod Ones
+pub mod Resting
 pub mod Copies
 pub mod Posts
 pub mod Handled

@@ -12,9 +12,12 @@ ghost use Rattle.arj_law_cause.specs.rows.Lines.{AnswersHaveCauses};
 /// says. Of one answer it says less: of a conflict that a store says, over a state in doubt, it says that this node answered a
 /// Load in the span, and may be a store of the object by the journal, of an action that began, isn't on the path that asks, and by
 /// then had changed the object; and that since its commit was called it prepared something there, or the node stopped, whatever it
-/// was doing, and no end of it is done there since. Of one more line it says a part: one that says what changed is of a call,
-/// and an answer that finds it was made in the span by the node that is named, or by naming for it, unless the action runs at
-/// either. It does nothing when it runs.
+/// was doing, and no end of it is done there since. And one that
+/// says what changed is of a call that was told so in the span, by the node that is named or by naming, unless the action runs at
+/// either; and there the one copy was active before the other at the node, as it showed in the span, or the node was in the new
+/// incarnation in the span, and in the old one had a copy of the object. Of two things it says less: of bindings that differ by what
+/// naming told, that naming made both, and which is older, not that the root had one of them; and of incarnations, where naming told
+/// the call something in its span, or none was known, no more. It does nothing when it runs.
 pub fn answers_have_causes()
     ensures runs { AnswersHaveCauses }
 {}

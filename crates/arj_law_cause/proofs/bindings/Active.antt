@@ -31,7 +31,8 @@ use Rattle.arj_model.specs.Caused.{has_cause}
 use Rattle.arj_model.specs.Past.{Past}
 use Rattle.arj_promise.specs.Runs.{IsInForm, Run, journal_by}
 use Rattle.arj_law_cause.proofs.bindings.Asking.{AskedSo}
-use Rattle.arj_law_cause.proofs.bindings.Copies.{HasCopies, IsUnder, StaysBy, active_by, is_activate, is_idle, message_copies}
+use Rattle.arj_law_cause.proofs.bindings.Copies.{HasCopies, IsUnder, active_by}
+use Rattle.arj_law_cause.proofs.bindings.Resting.{StaysBy, is_activate, is_idle, message_copies}
 use Rattle.arj_law_cause.proofs.bindings.Counted.{IsGiven}
 use Rattle.arj_law_cause.proofs.bindings.Lines.{IsLined, copies}
 use Rattle.arj_law_cause.proofs.bindings.Since.{met_in}

@@ -17,7 +17,8 @@ use Words.{again_all, acts, kept_at, is_free, root_of, actor, Coord, new_coord, 
 use Words.{Say, Send, Do}
 use Words.{Intent, Input, ends_of, Machine, ask_of, Voting, Preparing, Confirming}
 use Words.{Keeping, Root, Said, Went, Grant, granted_by, given_away, has_changed, is_ended, is_invoke_ask, keeping_after, keeping_of}
-use Words.{keeps_after, kept_after, kept_of, known_at_start, no_keeping, notes_grant, Plan, renewed, retains, root_after, root_at, root_heard}
+use Words.{keeps_after, kept_after, kept_of, known_at_start, no_keeping, notes_grant, Plan, renewed, retains, root_after, root_at}
+use Words.{root_heard}
 use Words.{root_lost, root_moved, same_said, same_went, spoils, top_of, was_named, with_keeping, with_said, with_went}
 use Words.ask
 use Words.bound
@@ -26,11 +27,12 @@ use Words.invoked
 use Words.loaded
 use Words.recorded
 use Rattle.arj_law_parts.proofs.coordinator
-use coordinator.Trace.{Came, Hears, turned, kept_at_start, CallTurn, Answers, GivesUp, Calls, StartsCall, StartsInclude, GoesOn, CallsAgain, OfCall}
+use coordinator.Trace.{Came, Hears, turned, kept_at_start, CallTurn, Answers, GivesUp, Calls, StartsCall, StartsInclude, GoesOn}
+use coordinator.Trace.{CallsAgain, OfCall}
 use coordinator.Trace.{OfCommit}
 use coordinator.Trace.{Move, Out, AsksIt, Trace, trace_says}
 use coordinator.Walks.{acts_trace, heard_trace, acked_trace, again_trace}
-use coordinator.Works.{KeepsRoots, KeepsWorks, Roots, Works, its_root, roots_move, works_move, works_new}
+use coordinator.Works.{KeepsRoots, KeepsWorks, Works, its_root, roots_move, works_move, works_new}
 use Rattle.arj_law_parts.proofs.parts.LivesNamed.{keyed_at, keyed_each, keyed_put}
 use Rattle.arj_law_parts.specs.parts.Lives.{IsLoadedOf, IsOfObject}
 use Rattle.arj_law_cause.proofs.bindings.Named.{OfInc, OfServer}
@@ -205,7 +207,8 @@ module _ (N A : OfServer) (I : OfInc)
   loaded_so x kept k s rest (Include n) (loaded.InDoubt holder) ko its of_x = (tt, ko)
 
   activated_so : (x : ℕ) (kept : Option Known) (k : Known) (st : Words.ObjectState) (i : ℕ) (g : Goal) → IsKeptSo N A I x kept →
-      IsAtSo N A I x g (AtActivate k st) → A (let u = st.uid in u.num) k.binding k.server × I (let u = st.uid in u.num) k.binding k.server i →
+      IsAtSo N A I x g (AtActivate k st) → A (let u = st.uid in u.num) k.binding k.server × I (let u = st.uid in u.num) k.binding k.server
+          i →
       IsMovedSo N A I x g (activated_by k i kept)
   activated_so x kept k st i (Include n) ko its active = absurd its
   activated_so x kept k st i (Run o) ko its active = by kept ko

@@ -69,15 +69,13 @@ silent_both xs ys a b = runs.all_both IsSilent xs ys a b
 
 module _ (k : ℕ) (d : Disk) (t : Parts) (M : Seen) (good : IsGood (up k d t M)) (requests : AreAsked (up k d t M))
     (given : IsGiven M.start M.lines) (names : HasNames k t M.start M.lines) (had : HasCopies k t.server M.start M.lines)
-    (now : incarnation M.start M.lines k ≡ d.inc) (says : Says (up k d t M)) (from : ℕ) (m : Message) (posted : In (record { from = from; to = k; message = m }) M.sent) where
+    (now : incarnation M.start M.lines k ≡ d.inc) (says : Says (up k d t M)) (from : ℕ) (m : Message) (posted : In (record { from = from;
+        to = k; message = m }) M.sent) where
   abbrev ls : List Line
   ls = M.lines
 
   abbrev base : List Post
   base = M.sent
-
-  abbrev st : Start
-  st = M.start
 
   mine : At M.start M.lines t
   mine = own_of k d t M says
@@ -99,7 +97,8 @@ module _ (k : ℕ) (d : Disk) (t : Parts) (M : Seen) (good : IsGood (up k d t M)
   By (Took v outs) = At M.start M.lines v × ((e : ℕ) → Claims k M.start base e outs ls)
 
   -- an answer to the message's request
-  answer_post : (h : Head) (a : Ask) → asks m ≡ Some (h, a) → (r : Reply) (ms : List Line) → ReplySo (IsLined ms) (active_by ms) (met_in M.start ms) k a r →
+  answer_post : (h : Head) (a : Ask) → asks m ≡ Some (h, a) → (r : Reply) (ms : List Line) → ReplySo (IsLined ms) (active_by ms) (met_in
+      M.start ms) k a r →
       PostSo M.start base ms (record { from = k; to = from; message = response (asked_by h) r })
   answer_post h a is r ms so = record {
     asking = subst (AskedSo (IsLined ms) (active_by ms) (met_in M.start ms) from) (sym (no_request (asked_by h) r)) tt;
@@ -133,7 +132,8 @@ module _ (k : ℕ) (d : Disk) (t : Parts) (M : Seen) (good : IsGood (up k d t M)
 
   kinds : {R : Type 0} (a : Ask) (say : R → Reply) (o : Option R) →
       ((r : R) → o ≡ Some r → (ms : List Line) → Later ls ms → ReplySo (IsLined ms) (active_by ms) (met_in M.start ms) k a (say r)) →
-      (q : Reply) → option_map say o ≡ Some q → (ms : List Line) → Later ls ms → ReplySo (IsLined ms) (active_by ms) (met_in M.start ms) k a q
+      (q : Reply) → option_map say o ≡ Some q → (ms : List Line) → Later ls ms → ReplySo (IsLined ms) (active_by ms) (met_in M.start ms) k
+          a q
   kinds a say None each q is ms l = none_is is
   kinds a say (Some r) each q is ms l = subst (ReplySo (IsLined ms) (active_by ms) (met_in M.start ms) k a) (some_is is) (each r refl ms l)
 
@@ -305,12 +305,11 @@ module _ (k : ℕ) (d : Disk) (t : Parts) (M : Seen) (good : IsGood (up k d t M)
         by false false false same = (
           mine,
           λ e. let ms : List Line = ls ++ numbered e (body.Active k x b ∷ []) in (
-            answer_post h (ask.Activate b st) is (Reply.Activated (let s = t.server in s.inc)) ms
-                (
-                  (b, refl, lined_more ls (numbered e (body.Active k x b ∷ [])) x b k lined, active_last ls e k x b),
-                  λ few. subst (IsActiveIn M.start (M.lines ++ numbered e (body.Active k x b ∷ [])) k x b) level
-                      (active_in_last M.start M.lines e k x b),
-                ),
+            answer_post h (ask.Activate b st) is (Reply.Activated (let s = t.server in s.inc)) ms (
+              (b, refl, lined_more ls (numbered e (body.Active k x b ∷ [])) x b k lined, active_last ls e k x b),
+              λ few. subst (IsActiveIn M.start (M.lines ++ numbered e (body.Active k x b ∷ [])) k x b) level
+                  (active_in_last M.start M.lines e k x b),
+            ),
             λ more quiet. tt,
           ),
         )
@@ -407,9 +406,11 @@ module _ (k : ℕ) (d : Disk) (t : Parts) (M : Seen) (good : IsGood (up k d t M)
       twice false = new (prepare_answer (actor h.path) states d.store)
   asked h (ask.Confirm grants excluded included) is = with_it _ t.naming refl (λ n at.
       let r = confirm h.path grants excluded included d.names n in
-      answered h (ask.Confirm grants excluded included) is (with_naming t r.part) r.outs (option_map Reply.Confirmed r.reply)
-      (mine.0, λ o same. subst (IsNamingSo anything (met_in M.start M.lines)) (some_is same)
-      (confirm_so anything (met_in M.start M.lines) h.path grants excluded included d.names n (mine.1 n at)))
+      answered h (ask.Confirm grants excluded included) is (with_naming t r.part) r.outs (option_map Reply.Confirmed r.reply) (
+        mine.0,
+        λ o same. subst (IsNamingSo anything (met_in M.start M.lines)) (some_is same)
+            (confirm_so anything (met_in M.start M.lines) h.path grants excluded included d.names n (mine.1 n at)),
+      )
       (naming_silent r.outs (confirm_own h.path grants excluded included d.names n))
       (kinds (ask.Confirm grants excluded included) Reply.Confirmed r.reply (λ a q ms l. tt)))
 
@@ -420,7 +421,8 @@ module _ (k : ℕ) (d : Disk) (t : Parts) (M : Seen) (good : IsGood (up k d t M)
     where
       by : (o : Option (Unit {0})) → By (by_reply (with_coord t r.part) r.outs o)
       by None = tt
-      by (Some u) = ((f.0, mine.1), λ e. all_claims k M.start base e ls r.outs (coord_posts k M.start base ls r.part r.outs truly f.1) ls (later_same ls))
+      by (Some u) = ((f.0, mine.1), λ e. all_claims k M.start base e ls r.outs (coord_posts k M.start base ls r.part r.outs truly f.1) ls
+          (later_same ls))
 
   ends_left : (ack : Bool) (ends : List (Uid × End)) (o : Option (Uid × End)) → By (handle_ends k d t from ack ends o)
   ends_left ack ends None = (mine, λ e. tt)
@@ -459,7 +461,8 @@ module _ (k : ℕ) (d : Disk) (t : Parts) (M : Seen) (good : IsGood (up k d t M)
     -- a call that waits for the answer asked what it answers
     fits : (a : Asked) (r : Reply) → answers m ≡ Some (a, r) → FitsCall (IsLined ls) (active_by ls) (met_in M.start ls) from a r t.coord
     fits a r at q w found now waits = (
-      subst (λ z. ReplySo (IsLined ls) (active_by ls) (met_in M.start ls) from z r) step.same (bare_so (let z = its.answering a r at in z.ask) r
+      subst (λ z. ReplySo (IsLined ls) (active_by ls) (met_in M.start ls) from z r) step.same (bare_so (let z = its.answering a r at in
+          z.ask) r
           (let z = its.answering a r at in z.so)),
       of_object r refl,
     )
@@ -495,7 +498,8 @@ module _ (k : ℕ) (d : Disk) (t : Parts) (M : Seen) (good : IsGood (up k d t M)
             (let z = its.answering a r at in z.ask)
         step = counted.step w (ap (λ (z : Doing). z.now) (sym same) ∙ now) number
 
-        bare_so : (z : Ask) (r : Reply) → ReplySo (IsLined ls) (active_by ls) (met_in M.start ls) from z r → ReplySo (IsLined ls) (active_by ls) (met_in M.start ls) from (bare z) r
+        bare_so : (z : Ask) (r : Reply) → ReplySo (IsLined ls) (active_by ls) (met_in M.start ls) from z r → ReplySo (IsLined ls)
+            (active_by ls) (met_in M.start ls) from (bare z) r
         bare_so (ask.Bind x i avoid) r so = so
         bare_so (ask.Load x) r so = so
         bare_so (ask.Activate b st) r so = so

@@ -273,7 +273,8 @@ module _ (hd : Header) (st : Start) (q : Past) (e : Event) (w : World) (shown : 
     given = subst (λ z. IsGiven z M.seen.lines) h.start known.1.2.0.1.1.0
 
     note_well : (from : ℕ) (hh : Head) (x : ℕ) (b : Binding) (i g : ℕ) (o : Naming) → t.naming ≡ Some o → (rep : Reply) →
-        AskedSo (IsLined M.seen.lines) (active_by M.seen.lines) (met_in (let S = M.seen in S.start) M.seen.lines) k (Some (hh, ask.Record x b i g)) →
+        AskedSo (IsLined M.seen.lines) (active_by M.seen.lines) (met_in (let S = M.seen in S.start) M.seen.lines) k (Some (hh, ask.Record
+            x b i g)) →
         Well ((naming.note hh.path x b i g o).outs ++ Send from (response (asked_by hh) rep) ∷ []) M.seen.lines
     note_well from hh x b i g o has rep its = by (is_over hh.path o || not (is_some (at_number x o.objects))) (g == o.inc)
       where
@@ -309,7 +310,8 @@ module _ (hd : Header) (st : Start) (q : Past) (e : Event) (w : World) (shown : 
         by false false = rest M.seen.lines
 
     message_well : (v : Parts) (from : ℕ) (m : Message) (outs : List Effect) →
-        AskedSo (IsLined M.seen.lines) (active_by M.seen.lines) (met_in (let S = M.seen in S.start) M.seen.lines) k (asks m) → Still outs → handle k d t from m ≡ Took v outs →
+        AskedSo (IsLined M.seen.lines) (active_by M.seen.lines) (met_in (let S = M.seen in S.start) M.seen.lines) k (asks m) → Still outs
+            → handle k d t from m ≡ Took v outs →
         Well outs M.seen.lines
     message_well v from m outs its still is = asked (asks m) refl its
       where
@@ -317,7 +319,8 @@ module _ (hd : Header) (st : Start) (q : Past) (e : Event) (w : World) (shown : 
         others o at none = others_well outs M.seen.lines (calm_others outs still
             (subst (CalmBy k d t from) (sym (ap (handle_ask k d t from m) at) ∙ is) (message_calm k d t from m o none)))
 
-        asked : (o : Option (Head × Ask)) → asks m ≡ o → AskedSo (IsLined M.seen.lines) (active_by M.seen.lines) (met_in (let S = M.seen in S.start) M.seen.lines) k o →
+        asked : (o : Option (Head × Ask)) → asks m ≡ o → AskedSo (IsLined M.seen.lines) (active_by M.seen.lines) (met_in (let S = M.seen
+            in S.start) M.seen.lines) k o →
             Well outs M.seen.lines
         asked (Some (hh, ask.Record x b i g)) at its = named t.naming refl (sym (ap (handle_ask k d t from m) at) ∙ is)
           where
@@ -376,7 +379,8 @@ module _ (hd : Header) (st : Start) (q : Past) (e : Event) (w : World) (shown : 
       in_restart restarts ms b is = refl
 
       by : (c : Bool) → is_restart e ≡ c → (k : ℕ) (d : Disk) (t v : Parts) (from : ℕ) (m : Message) (outs : List Effect) (M : Moment) →
-          InIt (up k d t M) → Inside M → AskedSo (IsLined M.seen.lines) (active_by M.seen.lines) (met_in (let S = M.seen in S.start) M.seen.lines) k (asks m) → Still outs →
+          InIt (up k d t M) → Inside M → AskedSo (IsLined M.seen.lines) (active_by M.seen.lines) (met_in (let S = M.seen in S.start)
+              M.seen.lines) k (asks m) → Still outs →
           MayTake M.past.event m → handle k d t from m ≡ Took v outs → Well outs M.seen.lines
       by true on k d t v from m outs M known h its still may is =
           let none = (may (ap moments.is_restart h.event ∙ restart_is e on)).0 in

@@ -1,6 +1,6 @@
 -- Bindings of one number are one, where few were made, and so is what is known under them.
 use Rattle.arj_law_parts.proofs.Words
-use Words.{◌≡◌, ◌≤◌, ◌<◌, ◌∙◌, ◌+◌, ◌*◌, ◌==◌, ℕ, Bool, true, List, refl, sym, ap, subst, arith, eqb-true, Binding, Line, Start, binding_eq}
+use Words.{◌≡◌, ◌≤◌, ◌<◌, ◌+◌, ◌*◌, ℕ, true, List, sym, subst, arith, eqb-true, Binding, Line, Start, binding_eq}
 use Words.{binding_number}
 use Rattle.arj_law_runs.specs.calls.Bindings.{HasFewBindings, bindings_made}
 use Rattle.arj_law_cause.proofs.bindings.Counted.{IsGiven}

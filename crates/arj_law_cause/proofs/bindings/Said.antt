@@ -142,7 +142,8 @@ module _ (hd : Header) (e k : ℕ) (d : Disk) (M : Seen) (says : Says (seen.down
       (all_flat (PostedSo k M.start M.sent M.lines) (λ (e : Uid × Intent). tell_all e.1.root true ((e.0, ending.Commit) ∷ []) e.1.nodes)
       d.intents (λ e. all_map (PostedSo k M.start M.sent M.lines) (tell e.1.root true ((e.0, ending.Commit) ∷ [])) e.1.nodes
       (λ n. plain_post k M.start M.sent M.lines n _ refl refl)))) (asks_posts k M.start M.sent M.lines
-      (uid_set (prepared_actions d.store ++ prepared_actions d.names)))) (all_map (PostedSo k M.start M.sent M.lines) (hello_to k (d.inc + 1))
+      (uid_set (prepared_actions d.store ++ prepared_actions d.names)))) (all_map (PostedSo k M.start M.sent M.lines) (hello_to k (d.inc +
+          1))
       (without_number k (numbers_to hd.nodes)) (λ w. plain_post k M.start M.sent M.lines w _ refl refl))
     where
       back : (o : Option Naming) → AllPosted k M.start M.sent M.lines (naming_back o)
@@ -199,9 +200,10 @@ says_given hd = record {
   restart = λ e k d M g h. restart_walk hd e k d M h;
   first = λ st formed. record {
     sent = λ p i. absurd i;
-    works = λ j n t there live. subst (λ (z : Parts). At st [] z) (first_up hd st j n t there live)
-        (at_new (IsLined []) (active_by []) (met_in st []) j (st.incs j + 1) (let z = disk_by hd st j in z.intents),
-        new_naming j (st.incs j + 1) (disk_by hd st j) (met_in st []));
+    works = λ j n t there live. subst (λ (z : Parts). At st [] z) (first_up hd st j n t there live) (
+      at_new (IsLined []) (active_by []) (met_in st []) j (st.incs j + 1) (let z = disk_by hd st j in z.intents),
+      new_naming j (st.incs j + 1) (disk_by hd st j) (met_in st []),
+    );
   };
 }
 

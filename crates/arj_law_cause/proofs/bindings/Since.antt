@@ -1,6 +1,6 @@
 -- Copies that became active in an incarnation of their node, by the journal.
 use Rattle.arj_law_parts.proofs.Words
-use Words.{◌≡◌, ◌⊎◌, ◌≤◌, ◌<◌, ◌∙◌, ◌+◌, ◌==◌, ◌++◌, ◌&&◌, ◌||◌, ℕ, Bool, true, false, cond, List, [], ◌∷◌, length, take, Option, Some, None}
+use Words.{◌≡◌, ◌⊎◌, ◌≤◌, ◌<◌, ◌∙◌, ◌+◌, ◌==◌, ◌++◌, ◌&&◌, ◌||◌, ℕ, Bool, true, false, List, [], ◌∷◌, length, take, Option, Some, None}
 use Words.{refl, sym, ap, subst, inl, inr, arith, append_assoc, and_parts, eqb-true, list_any, nat_lt, nat_tests, AllByRecursion}
 use Words.{Binding, Body, In, Line, Start}
 use Words.{numbered}
@@ -9,7 +9,8 @@ use Rattle.arj_law.proofs.Reading.{read-append}
 use Rattle.arj_law_runs.proofs.kept.Walked.{same_number}
 use Rattle.arj_law_runs.specs.calls.Bindings.{HasFewBindings}
 use Rattle.arj_model.specs.Actions.{Act, Placed, acts_after, acts_from, put, read}
-use Rattle.arj_model.specs.CauseCopies.{Activation, activation_of, activations, had_both, is_at, is_under, same_binding, since_up, was_active_in}
+use Rattle.arj_model.specs.CauseCopies.{Activation, activation_of, activations, had_both, is_at, is_under, same_binding, since_up}
+use Rattle.arj_model.specs.CauseCopies.{was_active_in}
 use Rattle.arj_model.specs.Refusals.{incarnation}
 use Rattle.arj_law_cause.proofs.bindings.Lines.{IsActive, copies}
 use Rattle.arj_law_cause.proofs.bindings.Named.{OfInc}
@@ -99,23 +100,34 @@ active_of st ls n x b i h = (
 
 -- ---- incarnations
 
--- no copy became active in an incarnation that its node hasn't come to
-abbrev pub AreLow : Start → List Line → Type 0
-AreLow st ls = (n x : ℕ) (b : Binding) (i : ℕ) → IsActiveIn st ls n x b i → i ≤ incarnation st ls n
+-- no copy became active in an incarnation that its node hasn't come to; and none is 0
+pub record AreLow (st : Start) (ls : List Line) : Type 0 where
+  pub low : (n x : ℕ) (b : Binding) (i : ℕ) → IsActiveIn st ls n x b i → i ≤ incarnation st ls n
+  pub some : (n : ℕ) → 1 ≤ incarnation st ls n
 
 -- one more line by which no incarnation falls
 pub low_more : (st : Start) (ls : List Line) (e : ℕ) (c : Body) →
     ((n : ℕ) → incarnation st ls n ≤ incarnation st (ls ++ numbered e (c ∷ [])) n) → AreLow st ls →
     AreLow st (ls ++ numbered e (c ∷ []))
-low_more st ls e c rises low n x b i h = by (active_in_parts st ls e c n x b i h)
+low_more st ls e c rises g = record {
+  low = λ n x b i h. by n x b i (active_in_parts st ls e c n x b i h);
+  some = λ n. up_to 1 (incarnation st ls n) (incarnation st (ls ++ numbered e (c ∷ [])) n) (g.some n) (rises n);
+}
   where
-    up_to : (j k : ℕ) → j ≤ k → k ≤ incarnation st (ls ++ numbered e (c ∷ [])) n → j ≤ incarnation st (ls ++ numbered e (c ∷ [])) n
-    up_to j k a b = omega (arith, a, b)
+    up_to : (j k l : ℕ) → j ≤ k → k ≤ l → j ≤ l
+    up_to j k l a b = omega (arith, a, b)
 
-    by : IsActiveIn st ls n x b i ⊎ ((c ≡ body.Active n x b) × (incarnation st ls n ≡ i)) →
+    by : (n x : ℕ) (b : Binding) (i : ℕ) → IsActiveIn st ls n x b i ⊎ ((c ≡ body.Active n x b) × (incarnation st ls n ≡ i)) →
         i ≤ incarnation st (ls ++ numbered e (c ∷ [])) n
-    by (inl before) = up_to i (incarnation st ls n) (low n x b i before) (rises n)
-    by (inr new) = subst (λ j. j ≤ incarnation st (ls ++ numbered e (c ∷ [])) n) new.1 (rises n)
+    by n x b i (inl before) = up_to i (incarnation st ls n) (incarnation st (ls ++ numbered e (c ∷ [])) n) (g.low n x b i before) (rises n)
+    by n x b i (inr new) = subst (λ j. j ≤ incarnation st (ls ++ numbered e (c ∷ [])) n) new.1 (rises n)
+
+-- before there are any
+pub low_first : (st : Start) → AreLow st []
+low_first st = record { low = λ n x b i is. none_active st n x b i is; some = λ n. up (st.incs n) }
+  where
+    up : (n : ℕ) → 1 ≤ n + 1
+    up n = omega arith
 
 -- ---- the journal's words
 

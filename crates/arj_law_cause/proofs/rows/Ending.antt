@@ -1,8 +1,9 @@
 -- How calls and includes end at a coordinator: by an answer that it takes, or given up.
 use Rattle.arj_law_parts.proofs.Words
-use Words.{⊎_elim, ◌≡◌, ◌∙◌, ◌++◌, ◌&&◌, ◌==◌, ℕ, Bool, true, false, cond, List, [], ◌∷◌, Option, Some, None, refl, sym, ap, ⊤}
+use Words.{⊎_elim, ◌≡◌, ◌⊎◌, inl, inr, subst, What, ◌∙◌, ◌++◌, ◌&&◌, ◌==◌, ℕ, Bool, true, false, cond, List, [], ◌∷◌, Option, Some, None}
+use Words.{refl, sym, ap, ⊤}
 use Words.{option_map}
-use Words.{Ask, Asked, Binding, BoundReply, End, Head, InvokedReply, Kind, Label, Message, Mode, ObjectState, RecordedReply, Uid}
+use Words.{Ask, Asked, Binding, BoundReply, End, Head, Kind, Label, Message, Mode, ObjectState, Uid}
 use Words.{asks, object, Reply, actor, answers, answered, end_line, gaveup_lines, give_up, give_up_doing, gives_up}
 use Words.{heard, heard_by, heard_call, heard_doing, heard_none, heard_now, kept_at, moved_commit, next_node, root_lost, root_moved}
 use Words.{step_call}
@@ -36,6 +37,12 @@ use Words.{with_inc, binding_eq, binding_less}
 use Rattle.arj_law_lock_view.proofs.asking.Dumb.{abort_dumb, commit_dumb, dumb_both, gaveup_dumb, moved_dumb}
 use Rattle.arj_law_lock_view.specs.asking.Turns.{AreDumb, AreLined, Ends, Rests, Turns, calling}
 
+some_inc : (i j : ℕ) → Some i ≡ Some j → i ≡ j
+some_inc i j is = let k : ◌≡◌ {A = Option ℕ} (Some i) (Some j) = is in cc
+
+no_inc : {P : Type 0} (i : ℕ) → None ≡ Some i → P
+no_inc i is = let no_way : ◌≡◌ {A = Option ℕ} None (Some i) = is in absurd (cc no_way)
+
 -- ---- a step and an answer to it
 
 -- a conflict is what naming answered to a Bind, a store to a Load, or a server to an Invoke
@@ -50,17 +57,27 @@ abbrev pub is_load : At → Bool
 is_load (AtLoad k s rest) = true
 is_load _ = false
 
+-- the root keeps another binding than this
+abbrev pub IsOther : Option Known → Binding → ℕ → What → Type 0
+IsOther kept b n w = (old : Known) × (kept ≡ Some old) × (binding_eq old.binding b ≡ false) × (n ≡ 1) × (w ≡ calls.two_bindings
+    old.binding b)
+
+-- it keeps this binding, with another incarnation of the server
+abbrev pub IsOtherInc : Option Known → Binding → ℕ → ℕ → What → Type 0
+IsOtherInc kept b i n w = (old : Known) × (first : ℕ) × (kept ≡ Some old) × (binding_eq old.binding b ≡ true) × (n ≡ old.server)
+    × (old.inc ≡ Some first) × ((first == i) ≡ false) × (w ≡ two_incs first i)
+
 -- A change is what naming's answer to a Bind, or to a Record, showed, or a server's answer to an Activate, under the binding that the root
 -- keeps, or to an Invoke.
-pub data IsChange (kept : Option Known) (at : At) (r : Reply) (n : ℕ) : Type 0 where
+pub data IsChange (kept : Option Known) (at : At) (r : Reply) (n : ℕ) (w : What) : Type 0 where
   OnLive : (avoid b : Binding) (server i g : ℕ) (stores : List ℕ) → at ≡ AtBind avoid → r ≡ Reply.Bound (bound.Live b server i g stores) →
-      IsChange kept at r n
+      IsOther kept b n w ⊎ IsOtherInc kept b i n w → IsChange kept at r n w
   OnMake : (avoid b : Binding) (server g : ℕ) (stores : List ℕ) → at ≡ AtBind avoid → r ≡ Reply.Bound (bound.Make b server g stores) →
-      IsChange kept at r n
-  OnActivate : (k : Known) (st : ObjectState) (i : ℕ) (old : Known) → at ≡ AtActivate k st → r ≡ Reply.Activated i → kept ≡ Some old →
-      binding_eq old.binding k.binding ≡ true → n ≡ old.server → IsChange kept at r n
-  OnNote : (k : Known) (i : ℕ) (q : RecordedReply) → at ≡ AtNote k i → r ≡ Reply.Noted q → IsChange kept at r n
-  OnInvoke : (k : Known) (i : ℕ) (q : InvokedReply) → at ≡ AtInvoke k i → r ≡ Reply.Invoked q → n ≡ k.server → IsChange kept at r n
+      IsOther kept b n w → IsChange kept at r n w
+  OnActivate : (k : Known) (st : ObjectState) (i : ℕ) → at ≡ AtActivate k st → r ≡ Reply.Activated i → IsOtherInc kept k.binding i n w →
+      IsChange kept at r n w
+  OnNote : (k : Known) (i : ℕ) → at ≡ AtNote k i → r ≡ Reply.Noted (recorded.Changed w) → n ≡ 1 → IsChange kept at r n w
+  OnInvoke : (k : Known) (i : ℕ) → at ≡ AtInvoke k i → r ≡ Reply.Invoked (invoked.Changed w) → n ≡ k.server → IsChange kept at r n w
 
 -- an answer that goes on to load names no store
 abbrev pub HasNone : BoundReply → Type 0
@@ -73,7 +90,7 @@ abbrev pub EndsBy : Option Known → Goal → At → Reply → CallEnd → Type 
 EndsBy kept goal at r (Answered a) = (k : Known) × (i : ℕ) × (at ≡ AtInvoke k i) × (r ≡ Reply.Invoked (invoked.Answered a))
 EndsBy kept goal at r (Included st) = (n : ℕ) × (goal ≡ Include n) × (is_load at ≡ true)
 EndsBy kept goal at r (Conflict u m n) = IsConflict at r u m n
-EndsBy kept goal at r (Changed n w) = IsChange kept at r n
+EndsBy kept goal at r (Changed n w) = IsChange kept at r n w
 EndsBy kept goal at r (Lost n b) = (q : BoundReply) × (r ≡ Reply.Bound q) × HasNone q
 
 -- where it ends it
@@ -81,79 +98,98 @@ abbrev StepEnds : Option Known → Goal → At → Reply → CallStep → Type 0
 StepEnds kept goal at r (On next) = ⊤
 StepEnds kept goal at r (Ended e) = EndsBy kept goal at r e
 
--- the call goes on, or has changed
-abbrev IsPlain : CallStep → Type 0
-IsPlain (On next) = ⊤
-IsPlain (Ended (Changed n w)) = ⊤
-IsPlain (Ended e) = ⊥
+-- the call goes on, or has changed so
+abbrev MayChange : (ℕ → What → Type 0) → CallStep → Type 0
+MayChange P (On next) = ⊤
+MayChange P (Ended (Changed n w)) = P n w
+MayChange P (Ended e) = ⊥
 
-plain_ends : (kept : Option Known) (goal : Goal) (at : At) (r : Reply) (s : CallStep) → ((n : ℕ) → IsChange kept at r n) → IsPlain s →
-    StepEnds kept goal at r s
-plain_ends kept goal at r (On next) change plain = tt
-plain_ends kept goal at r (Ended (Changed n w)) change plain = change n
-plain_ends kept goal at r (Ended (Answered a)) change plain = absurd plain
-plain_ends kept goal at r (Ended (Included st)) change plain = absurd plain
-plain_ends kept goal at r (Ended (Conflict u m n)) change plain = absurd plain
-plain_ends kept goal at r (Ended (Lost n b)) change plain = absurd plain
+change_ends : (P : ℕ → What → Type 0) (kept : Option Known) (goal : Goal) (at : At) (r : Reply) (s : CallStep) →
+    ((n : ℕ) (w : What) → P n w → IsChange kept at r n w) → MayChange P s → StepEnds kept goal at r s
+change_ends P kept goal at r (On next) change may = tt
+change_ends P kept goal at r (Ended (Changed n w)) change may = change n w may
+change_ends P kept goal at r (Ended (Answered a)) change may = absurd may
+change_ends P kept goal at r (Ended (Included st)) change may = absurd may
+change_ends P kept goal at r (Ended (Conflict u m n)) change may = absurd may
+change_ends P kept goal at r (Ended (Lost n b)) change may = absurd may
 
-inc_plain : (i : ℕ) (kept : Known) (at : At) (o : Option ℕ) → IsPlain (with_inc i kept at o).step
-inc_plain i kept at None = tt
-inc_plain i kept at (Some first) = by (first == i)
+-- another incarnation was known
+inc_changes : (P : ℕ → What → Type 0) (i : ℕ) (q : Known) (at : At) (o : Option ℕ) →
+    ((first : ℕ) → o ≡ Some first → (first == i) ≡ false → P q.server (two_incs first i)) → MayChange P (with_inc i q at o).step
+inc_changes P i q at None so = tt
+inc_changes P i q at (Some first) so = by (first == i) refl
   where
-    by : (b : Bool) →
-        IsPlain (cond {A = Moved} b (moves (Some kept) at) (finds (Some kept) (Changed kept.server (two_incs first i)))).step
-    by true = tt
-    by false = tt
+    by : (b : Bool) → (first == i) ≡ b →
+        MayChange P (cond {A = Moved} b (moves (Some q) at) (finds (Some q) (Changed q.server (two_incs first i)))).step
+    by true e = tt
+    by false e = so first refl e
 
-bound_plain : (free : Bool) (k : Known) (at : At) (o : Option Known) → IsPlain (bound_by free k at o).step
-bound_plain free k at None = tt
-bound_plain free k at (Some old) = by (binding_eq old.binding k.binding)
+-- what a binding changes that naming answered, with this incarnation
+abbrev Binds : Option Known → Known → ℕ → What → Type 0
+Binds kept k n w = IsOther kept k.binding n w ⊎ ((i : ℕ) × (k.inc ≡ Some i) × IsOtherInc kept k.binding i n w)
+
+bound_changes : (free : Bool) (k : Known) (at : At) (o : Option Known) → MayChange (Binds o k) (bound_by free k at o).step
+bound_changes free k at None = tt
+bound_changes free k at (Some old) = by (binding_eq old.binding k.binding) refl
   where
-    same : (o : Option ℕ) → IsPlain (same_binding old k at o).step
-    same None = tt
-    same (Some i) = inc_plain i (named_again old k) at old.inc
+    same : binding_eq old.binding k.binding ≡ true → (o : Option ℕ) → k.inc ≡ o → MayChange (Binds (Some old) k) (same_binding old k at
+        o).step
+    same e None is = tt
+    same e (Some i) is = inc_changes (Binds (Some old) k) i (named_again old k) at old.inc
+        (λ first keeps off. inr (i, is, (old, first, refl, e, refl, keeps, off, refl)))
 
-    other : (b : Bool) → IsPlain (cond {A = Moved} b (moves (Some k) at)
+    other : binding_eq old.binding k.binding ≡ false → (b : Bool) → MayChange (Binds (Some old) k) (cond {A = Moved} b (moves (Some k) at)
         (finds (Some old) (Changed 1 (calls.two_bindings old.binding k.binding)))).step
-    other true = tt
-    other false = tt
+    other e true = tt
+    other e false = inl (old, refl, e, refl, refl)
 
-    by : (b : Bool) → IsPlain (cond {A = Moved} b (same_binding old k at k.inc) (other_binding free old k at)).step
-    by true = same k.inc
-    by false = other (free && binding_less old.binding k.binding)
+    by : (b : Bool) → binding_eq old.binding k.binding ≡ b →
+        MayChange (Binds (Some old) k) (cond {A = Moved} b (same_binding old k at k.inc) (other_binding free old k at)).step
+    by true e = same e k.inc refl
+    by false e = other e (free && binding_less old.binding k.binding)
 
 activated_ends : (g : Goal) (k : Known) (st : ObjectState) (i : ℕ) (kept : Option Known) →
     StepEnds kept g (AtActivate k st) (Reply.Activated i) (activated_by k i kept).step
 activated_ends g k st i None = tt
-activated_ends g k st i (Some old) = by (binding_eq old.binding k.binding) refl
+activated_ends g k st i (Some old) =
+    change_ends Other (Some old) g (AtActivate k st) (Reply.Activated i) (activated_by k i (Some old)).step
+    (λ n w other. OnActivate k st i refl refl other) (by (binding_eq old.binding k.binding) refl)
   where
-    other : (b : Bool) (first : ℕ) → binding_eq old.binding k.binding ≡ true → StepEnds (Some old) g (AtActivate k st) (Reply.Activated i)
-        (cond {A = Moved} b (moves (Some old) (AtNote k i)) (finds (Some old) (Changed old.server (two_incs first i)))).step
-    other true first same = tt
-    other false first same = OnActivate k st i old refl refl refl same refl
+    Other : ℕ → What → Type 0
+    Other n w = IsOtherInc (Some old) k.binding i n w
 
-    named : (o : Option ℕ) → binding_eq old.binding k.binding ≡ true →
-        StepEnds (Some old) g (AtActivate k st) (Reply.Activated i) (with_inc i old (AtNote k i) o).step
-    named None same = tt
-    named (Some first) same = other (first == i) first same
+    by : (b : Bool) → binding_eq old.binding k.binding ≡ b →
+        MayChange Other (cond {A = Moved} b (with_inc i old (AtNote k i) old.inc) (moves (Some old) (AtNote k i))).step
+    by true e = inc_changes Other i old (AtNote k i) old.inc (λ first keeps off. (old, first, refl, e, refl, keeps, off, refl))
+    by false e = tt
 
-    by : (b : Bool) → binding_eq old.binding k.binding ≡ b → StepEnds (Some old) g (AtActivate k st) (Reply.Activated i)
-        (cond {A = Moved} b (with_inc i old (AtNote k i) old.inc) (moves (Some old) (AtNote k i))).step
-    by true same = named old.inc same
-    by false same = tt
+-- naming's answers
+live_change : (kept : Option Known) (avoid b : Binding) (server i g : ℕ) (stores : List ℕ) (n : ℕ) (w : What) →
+    Binds kept (calls.live_known b server i g stores) n w →
+    IsChange kept (AtBind avoid) (Reply.Bound (bound.Live b server i g stores)) n w
+live_change kept avoid b server i g stores n w (inl other) = OnLive avoid b server i g stores refl refl (inl other)
+live_change kept avoid b server i g stores n w (inr (j, is, other)) = OnLive avoid b server i g stores refl refl
+    (inr (subst (λ z. IsOtherInc kept b z n w) (sym (some_inc i j is)) other))
+
+make_change : (kept : Option Known) (avoid b : Binding) (server g : ℕ) (stores : List ℕ) (n : ℕ) (w : What) →
+    Binds kept (made_known b server g stores) n w → IsChange kept (AtBind avoid) (Reply.Bound (bound.Make b server g stores)) n w
+make_change kept avoid b server g stores n w (inl other) = OnMake avoid b server g stores refl refl other
+make_change kept avoid b server g stores n w (inr (j, is, other)) = absurd (no_inc j is)
 
 ends_by : (free : Bool) (kept : Option Known) (g : Goal) (at : At) (r : Reply) → StepEnds kept g at r (answered free kept g at r).step
 ends_by free kept g (AtBind avoid) (Reply.Bound (bound.Live b server i given stores)) =
-    plain_ends kept g (AtBind avoid) (Reply.Bound (bound.Live b server i given stores))
+    change_ends (Binds kept (calls.live_known b server i given stores)) kept g (AtBind avoid)
+    (Reply.Bound (bound.Live b server i given stores))
     (answered free kept g (AtBind avoid) (Reply.Bound (bound.Live b server i given stores))).step
-    (λ n. OnLive avoid b server i given stores refl refl)
-    (bound_plain free (calls.live_known b server i given stores) (AtInvoke (calls.live_known b server i given stores) i) kept)
+    (live_change kept avoid b server i given stores)
+    (bound_changes free (calls.live_known b server i given stores) (AtInvoke (calls.live_known b server i given stores) i) kept)
 ends_by free kept g (AtBind avoid) (Reply.Bound (bound.Make b server given [])) = (bound.Make b server given [], refl, refl)
 ends_by free kept g (AtBind avoid) (Reply.Bound (bound.Make b server given (s ∷ stores))) =
-    plain_ends kept g (AtBind avoid) (Reply.Bound (bound.Make b server given (s ∷ stores)))
+    change_ends (Binds kept (made_known b server given (s ∷ stores))) kept g (AtBind avoid)
+    (Reply.Bound (bound.Make b server given (s ∷ stores)))
     (bound_by free (made_known b server given (s ∷ stores)) (AtLoad (made_known b server given (s ∷ stores)) s stores) kept).step
-    (λ n. OnMake avoid b server given (s ∷ stores) refl refl)
-    (bound_plain free (made_known b server given (s ∷ stores)) (AtLoad (made_known b server given (s ∷ stores)) s stores) kept)
+    (make_change kept avoid b server given (s ∷ stores))
+    (bound_changes free (made_known b server given (s ∷ stores)) (AtLoad (made_known b server given (s ∷ stores)) s stores) kept)
 ends_by free kept g (AtBind avoid) (Reply.Bound (bound.Write given [])) = (bound.Write given [], refl, refl)
 ends_by free kept g (AtBind avoid) (Reply.Bound (bound.Write given (s ∷ stores))) = tt
 ends_by free kept g (AtBind avoid) (Reply.Bound (bound.Conflict u m)) = ByNaming avoid refl refl refl
@@ -165,10 +201,10 @@ ends_by free kept g (AtLoad k s rest) (Reply.Loaded (loaded.State st)) = by g
 ends_by free kept g (AtLoad k s rest) (Reply.Loaded (loaded.InDoubt u)) = ByStore k s rest refl refl refl refl
 ends_by free kept g (AtActivate k st) (Reply.Activated i) = activated_ends g k st i kept
 ends_by free kept g (AtNote k i) (Reply.Noted recorded.Yes) = tt
-ends_by free kept g (AtNote k i) (Reply.Noted (recorded.Changed w)) = OnNote k i (recorded.Changed w) refl refl
+ends_by free kept g (AtNote k i) (Reply.Noted (recorded.Changed w)) = OnNote k i refl refl refl
 ends_by free kept g (AtInvoke k i) (Reply.Invoked (invoked.Answered a)) = (k, i, refl, refl)
 ends_by free kept g (AtInvoke k i) (Reply.Invoked (invoked.Conflict u m)) = ByServer k i refl refl refl
-ends_by free kept g (AtInvoke k i) (Reply.Invoked (invoked.Changed w)) = OnInvoke k i (invoked.Changed w) refl refl refl
+ends_by free kept g (AtInvoke k i) (Reply.Invoked (invoked.Changed w)) = OnInvoke k i refl refl refl
 ends_by free kept g at r = tt
 
 -- ---- what a coordinator says

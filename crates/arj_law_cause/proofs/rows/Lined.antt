@@ -38,7 +38,8 @@ use Rattle.arj_law_cause.proofs.rows.Rows.{changed_so, conflict_so, included_so,
 use Rattle.arj_law_runs.specs.addresses.Binds.{StandsOn}
 use Words.{AtInvoke}
 use Rattle.arj_law_cause.proofs.rows.Locked.{LoadsAreLocked, own_of}
-use Rattle.arj_law_cause.proofs.rows.Taking.{AskedPaths, IsPathAt, Works, caller, full_reply, off_called, one_server, stands_on, taken}
+use Rattle.arj_law_cause.proofs.rows.Taking.{AskedPaths, IsPathAt, Works, caller, full_reply, given as are_given, kept_binding, replied}
+use Rattle.arj_law_cause.proofs.rows.Taking.{off_called, stands_on, step_so, taken, told}
 use Rattle.arj_law_cause.proofs.waits.lost.Bound.{BoundFull, ReplyFull}
 use Rattle.arj_law_cause.proofs.waits.lost.Stored.{IsFull}
 use Rattle.arj_law_runs.proofs.journal.Beginning as Beginning
@@ -270,7 +271,8 @@ module _ (hd : Header) (st : Start) (before : List Line) (event : ℕ) where
 
   module _ (G : Moment → Type 0) (steps : KeepsSteps hd G)
       (works : (k : ℕ) (d : Disk) (t : Parts) (M : Moment) → G (up k d t M) → Works hd k d t M)
-      (locked : (k : ℕ) (d : Disk) (t : Parts) (M : Moment) → G (up k d t M) → LoadsAreLocked (up k d t M)) where
+      (locked : (k : ℕ) (d : Disk) (t : Parts) (M : Moment) → G (up k d t M) → LoadsAreLocked (up k d t M))
+      (begins : (k : ℕ) (d : Disk) (t : Parts) (M : Moment) → G (up k d t M) → M.seen.start ≡ st) where
     abbrev Both : Moment → Type 0
     Both M = G M × Lined M
 
@@ -278,7 +280,9 @@ module _ (hd : Header) (st : Start) (before : List Line) (event : ℕ) where
         WalksWith Lined k outs (UpWith Lined k v) d M → WalksWith Both k outs (UpWith Both k v) d M
     both k outs v d M a b = with_both G Lined k outs (UpWith G k v) (UpWith Lined k v) d M a b
 
-    module _ (k : ℕ) (d : Disk) (t : Parts) (M : Moment) (W : Works hd k d t M) (L : LoadsAreLocked (up k d t M)) (h : Lined M) where
+    module _ (k : ℕ) (d : Disk) (t : Parts) (M : Moment) (W : Works hd k d t M) (L : LoadsAreLocked (up k d t M)) (begun : M.seen.start ≡
+        st)
+        (h : Lined M) where
       busy : (u : Uid) (w : Doing) (s : Steps) → doing_of u t.coord ≡ Some w → w.now ≡ Calling s → actor s.path ≡ u
       busy u w s found is = let c = caller hd k d t M W u w s found is in c.actor
 
@@ -317,8 +321,10 @@ module _ (hd : Header) (st : Start) (before : List Line) (event : ℕ) where
           by (Changed n x) ends = changed_so hd k M (here_of accepted M M.seen.lines) refl refl
               (asks_same accepted (accepted_of M.past.askings) same) u w s (caller hd k d t M W u w s found is) h.paths
               (kept_of s.x (root_at (root_of s.path) t.coord)) (stands_on hd k d t M W u w s found is) from a r
-              (taken hd k d t M W u w s found is from m there a r answer act waits)
-              (λ y old st at keeps same_binding. one_server hd k d t M W u w s found is early.few y old st at keeps same_binding) n ends
+              (taken hd k d t M W u w s found is from m there a r answer act waits) (sym begun) early.few
+              (are_given hd k d t M W u w s found is) (told hd k d t M W u w s found is from m there a r answer act waits)
+              (step_so hd k d t M W u w s found is) (kept_binding hd k d t M W u w s found is)
+              (replied hd k d t M W u w s found is from m there a r answer act waits) n x ends
           by (Lost n b) ends = absurd (none_full ends.0 (subst ReplyFull ends.1
               (full_reply hd k d t M W u w s found is from m there a r answer act waits)) ends.2)
 
@@ -431,11 +437,12 @@ module _ (hd : Header) (st : Start) (before : List Line) (event : ℕ) where
       stop = λ k d live M h. (steps.stop k d live M h.0, halted_lined k d M (same_lined (at k d live M) M refl refl h.1));
       message = λ k d t v from m outs M h there meant may is.
           both k outs v d M (steps.message k d t v from m outs M h.0 there meant may is)
-          (message_lined k d t M (works k d t M h.0) (locked k d t M h.0) (same_lined
+          (message_lined k d t M (works k d t M h.0) (locked k d t M h.0) (begins k d t M h.0) (same_lined
           (up k d t M) M refl refl h.1) v from m outs there is);
       act = λ k d t i M is brings fresh asks free h. let did = does i d.intents t.coord in
           both k did.outs (with_coord t did.part) d (asks_now i t.coord M) (steps.act k d t i M is brings fresh asks free h.0)
-          (acts_lined k d t M (works k d t M h.0) (locked k d t M h.0) (same_lined (up k d t M) M refl refl h.1) i is brings fresh);
+          (acts_lined k d t M (works k d t M h.0) (locked k d t M h.0) (begins k d t M h.0) (same_lined (up k d t M) M refl refl h.1) i is
+              brings fresh);
       begin = λ k d t l how parent M brings fresh new gives none h.
           let did = begin_action l how parent (parent_of parent t.coord) t.coord in
           both k did.outs (with_coord t did.part) d (given l (record { node = k; serial = is_serial how }) M)

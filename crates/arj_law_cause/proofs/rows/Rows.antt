@@ -9,11 +9,17 @@ use Words.{Answer, Known, Label, leb-true, node_at, ◌≤◌, ◌<◌, is_neste
 use Rattle.std.specs.Prelude.{drop}
 use Words.{last_uid, name, uid_eq, uid_is, uid_same, uids_of, top_of, top_path, tops_of, actor, Reply, response, frame_kind}
 use Words.{⊎_elim, ◌==◌, inl, inr, is_include, At, AtActivate, AtBind, AtInvoke, AtLoad, AtNote, Goal, Include, Run, Steps, Doing, nat_le}
+use Words.{What, binding_eq, binding_less, binding_number, cond, differs, nat_lt, nat_tests, next_ask}
+use Words.{two_incs}
+use Rattle.arj_protocol.specs.Order.{greater_binding, lesser_binding}
 use Words.ask
+use Words.body
 use Words.bound
 use Words.frame
 use Words.invoked
 use Words.loaded
+use Words.recorded
+use Words.what
 use Words.mode
 use Words.value
 use Rattle.arj_protocol.specs.Words.op
@@ -31,6 +37,11 @@ use Rattle.arj_model.specs.CauseAnswers.{mode_of_call, modes_on_entry, ok_caused
 use Rattle.arj_journal.specs.ScriptForm.{HeaderInForm}
 use Rattle.arj_model.specs.Actions.{Placed, top_in}
 use Rattle.arj_model.specs.CausePends.{called_at, may_store}
+use Rattle.arj_model.specs.CauseAnswers as cause
+use Rattle.arj_model.specs.CauseCopies.{had_both, is_older, was_bound}
+use Rattle.arj_law_runs.proofs.calls.WholeRuns.{few_before}
+use Rattle.arj_law_runs.specs.calls.Bindings.{HasFewBindings, bindings_made}
+use Rattle.arj_model.specs.Refusals.{incarnation}
 use Rattle.arj_model.specs.CauseSpans.{Here, act_by, answered, asks_so, from_place, holds_in, is_call, is_call_of, is_include_of}
 use Rattle.arj_model.specs.CauseSpans.{nodes_of, same_frame}
 use Rattle.arj_model.specs.CauseSpans.{same_mode, same_op, same_pairs, same_value, was_sent}
@@ -38,18 +49,28 @@ use Rattle.arj_model.specs.CauseSpans.{top_uids}
 use Rattle.arj_model.specs.Past.{Asked as AskedOf, label_of}
 use Rattle.arj_model.specs.Refusals.{answers_to, asks_by, has_ended, holds_of, last_asked, object_used}
 use Rattle.arj_model.specs.Table.{table}
+use Rattle.arj_law_cause.proofs.bindings.Active.{older_is}
+use Rattle.arj_law_cause.proofs.bindings.Asking.{BoundSo, IsAtSo, IsKeptSo, IsKnownSo, IsSaidSo, ReplySo}
+use Rattle.arj_law_cause.proofs.bindings.Copies.{active_by}
+use Rattle.arj_law_cause.proofs.bindings.Counted.{IsGiven}
+use Rattle.arj_law_cause.proofs.bindings.Lines.{IsLined}
+use Rattle.arj_law_cause.proofs.bindings.Ones.{one_binding}
+use Rattle.arj_law_cause.proofs.bindings.Since.{AreLow, IsActiveIn, met_in}
+use Rattle.arj_law_cause.proofs.rows.Differences.{activate_is, bound_then, record_is, shown_at, shown_later, two_differ}
+use Rattle.arj_law_cause.proofs.rows.Differing.{Differs, says_differs}
+use Rattle.arj_law_cause.proofs.rows.Ending.{IsOther, IsOtherInc}
 use Rattle.arj_law_cause.proofs.rows.Ending.{IsChange, OnActivate, OnInvoke, OnLive, OnMake, OnNote}
 use Rattle.arj_law_cause.proofs.rows.Ending.{IsConflict, ByNaming, ByServer, ByStore}
 use Rattle.arj_law_cause.proofs.rows.Holders.{any_later, off_path, one_found, one_passes, upper_from}
 use Rattle.arj_law_cause.proofs.rows.Loading.{IsLocked}
 use Rattle.arj_law_cause.proofs.rows.Paths.{one_top, top_is}
 use Rattle.arj_law_cause.proofs.rows.Spans.{answered_at, in_range, or_first, or_last, rows_so, sent_to, shown_from}
-use Rattle.arj_law_cause.proofs.rows.Taking.{AskedPaths, IsCaller, IsTaken, bind_is}
-use Rattle.arj_law_cause.specs.rows.Lines.{came_from_store, was_called}
 use Rattle.arj_law_cause.proofs.rows.Pending.{IsCalledAt, called_act}
 use Rattle.arj_law_cause.proofs.confirm.Joined.{early_before}
 use Rattle.arj_law_cause.specs.rows.Early.{IsEarly}
 use Rattle.arj_law_cause.specs.rows.Says.{entry_modes, has_changed, has_upper, may_be_in_doubt, may_be_pending, may_pend, says_of}
+use Rattle.arj_law_cause.proofs.rows.Taking.{AskedPaths, IsCaller, IsTaken, IsTold, bind_is}
+use Rattle.arj_law_cause.specs.rows.Lines.{answer_fits, came_from_store, may_differ, may_have_changed, naming_told}
 
 -- ---- requests
 
@@ -321,11 +342,6 @@ module _ (hd : Header) (k : ℕ) (M : Moment) (h : Here) (header : h.header ≡ 
         (sent_to h (let z = q in z.at) k from what kinds (λ before. true) T.before T.after (lines ∙ T.are) T.late
         (subst (λ z. (from ≡ k) ⊎ BeginsWith from k z T.after) kind T.framed) among_them refl)
 
-    -- a call that was told of the node
-    called_so : (n : ℕ) (o : Op) → s.goal ≡ Run o → was_told h n c.act q ≡ true → was_called h (name w.label) n ≡ true
-    called_so n o goal is = row_so (λ b z. is_call z.event && was_told h n b z)
-        (λ j. (ap is_call (its_event ∙ ap (asks_goal (let g = c.asked.goal in g.0) s.x) goal)) j && is j)
-
     -- a server of this number sent it, or naming did
     abbrev by_server : ℕ → Bool
     by_server n = was_sent h (let z = q in z.at) n its_home (frame.Activated ∷ frame.Invoked ∷ [])
@@ -333,14 +349,20 @@ module _ (hd : Header) (k : ℕ) (M : Moment) (h : Here) (header : h.header ≡ 
     abbrev by_naming : Bool
     by_naming = was_sent h (let z = q in z.at) 1 its_home (frame.Bound ∷ frame.Recorded ∷ [])
 
-    named_told : (n : ℕ) (what : FrameKind) → from ≡ 1 → frame_kind (response a r) ≡ what →
-        list_any (same_frame what) (frame.Bound ∷ frame.Recorded ∷ []) ≡ true → was_told h n c.act q ≡ true
-    named_told n what one kind among_them = ⊎_elim {C = was_told h n c.act q ≡ true}
-        (λ same. or_first (its_home == 1) ((its_home == n) || (by_server n || by_naming)) (eq-eqb its_home 1 (same ∙ one)))
-        (λ sent. or_last (its_home == 1) ((its_home == n) || (by_server n || by_naming))
-        (or_last (its_home == n) (by_server n || by_naming) (or_last (by_server n) by_naming
-        (subst (λ m. was_sent h (let z = q in z.at) m its_home (frame.Bound ∷ frame.Recorded ∷ []) ≡ true) one sent))))
+    naming_says : (what : FrameKind) → from ≡ 1 → frame_kind (response a r) ≡ what →
+        list_any (same_frame what) (frame.Bound ∷ frame.Recorded ∷ []) ≡ true → naming_told h c.act q ≡ true
+    naming_says what one kind among_them = ⊎_elim {C = naming_told h c.act q ≡ true}
+        (λ same. or_first (its_home == 1) by_naming (eq-eqb its_home 1 (same ∙ one)))
+        (λ sent. or_last (its_home == 1) by_naming
+        (subst (λ m. was_sent h (let z = q in z.at) m its_home (frame.Bound ∷ frame.Recorded ∷ []) ≡ true) one sent))
         (sent_so what (frame.Bound ∷ frame.Recorded ∷ []) kind among_them)
+
+    naming_tells : (n : ℕ) → naming_told h c.act q ≡ true → was_told h n c.act q ≡ true
+    naming_tells n told = by (its_home == 1) told
+      where
+        by : (b : Bool) → (b || by_naming) ≡ true → (b || ((its_home == n) || (by_server n || by_naming))) ≡ true
+        by true is = refl
+        by false is = or_last (its_home == n) (by_server n || by_naming) (or_last (by_server n) by_naming is)
 
     server_told : (n : ℕ) (what : FrameKind) → from ≡ n → frame_kind (response a r) ≡ what →
         list_any (same_frame what) (frame.Activated ∷ frame.Invoked ∷ []) ≡ true → was_told h n c.act q ≡ true
@@ -351,38 +373,263 @@ module _ (hd : Header) (k : ℕ) (M : Moment) (h : Here) (header : h.header ≡ 
         (subst (λ m. was_sent h (let z = q in z.at) m its_home (frame.Activated ∷ frame.Invoked ∷ []) ≡ true) one sent)))
         (sent_so what (frame.Activated ∷ frame.Invoked ∷ []) kind among_them))
 
-    -- naming answers with a binding only to a call
-    bound_told : (n : ℕ) (avoid : Binding) (z : BoundReply) → s.at ≡ AtBind avoid → r ≡ Reply.Bound z →
-        (says_of hd from (head_of s) (ask.Bind s.x (is_include s.goal) avoid) (Reply.Bound z) T.before → is_include s.goal ≡ false) →
-        was_called h (name w.label) n ≡ true
-    bound_told n avoid z at is says = called_so n run.0 run.1 (named_told n frame.Bound (sym T.node ∙ ap (λ y. node_at y) at)
-        (ap (λ y. frame_kind (response a y)) is) refl)
-      where
-        run : (o : Op) × (s.goal ≡ Run o)
-        run = runs_so s.goal (says (subst (λ y. says_of hd from (head_of s) y (Reply.Bound z) T.before)
-            (bind_is T.ask s.x (is_include s.goal) avoid (T.same ∙ (λ j. ask_at s.x s.goal [] (at j))))
-            (subst (λ y. says_of hd from (head_of s) T.ask y T.before) is T.so)))
+    -- ---- what changed
 
-    -- what changed, in a call, where a binding has one server
-    pub changed_so : ((x old : Known) (st : ObjectState) → s.at ≡ AtActivate x st → kept ≡ Some old →
-        binding_eq old.binding x.binding ≡ true → old.server ≡ x.server) → (n : ℕ) → IsChange kept s.at r n →
-        was_called h (name w.label) n ≡ true
-    changed_so one n (OnLive avoid b server i g stores at is) =
-        bound_told n avoid (bound.Live b server i g stores) at is (λ so. so)
-    changed_so one n (OnMake avoid b server g stores at is) = bound_told n avoid (bound.Make b server g stores) at is (λ so. so)
-    changed_so one n (OnActivate x st i old at is keeps same its) =
-        let run = only_run s.goal kept s.at (AtActivate x st) stands at (λ m off. off) in
-        called_so n run.0 run.1 (server_told n frame.Activated
-        (sym T.node ∙ ap (λ y. node_at y) at ∙ sym (one x old st at keeps same) ∙ sym its)
-        (ap (λ y. frame_kind (response a y)) is) refl)
-    changed_so one n (OnNote x i z at is) =
-        let run = only_run s.goal kept s.at (AtNote x i) stands at (λ m off. off) in
-        called_so n run.0 run.1 (named_told n frame.Recorded (sym T.node ∙ ap (λ y. node_at y) at)
-        (ap (λ y. frame_kind (response a y)) is) refl)
-    changed_so one n (OnInvoke x i z at is its) =
-        let run = only_run s.goal kept s.at (AtInvoke x i) stands at (λ m off. off) in
-        called_so n run.0 run.1 (server_told n frame.Invoked (sym (its ∙ ap (λ y. node_at y) (sym at) ∙ T.node))
-        (ap (λ y. frame_kind (response a y)) is) refl)
+    module _ (start : h.start ≡ M.seen.start) (few : HasFewBindings M.seen.lines) (given : IsGiven M.seen.start M.seen.lines)
+        (D : IsTold from M s (let z = c.asked in z.asking) r)
+        (at_so : IsAtSo (IsLined M.seen.lines) (active_by M.seen.lines) (met_in M.seen.start M.seen.lines) s.x s.goal s.at)
+        (keeps_so : IsKeptSo (IsLined M.seen.lines) (active_by M.seen.lines) (met_in M.seen.start M.seen.lines) s.x kept)
+        (replied : (asked : Ask) × (bare asked ≡ next_ask [] s)
+        × ReplySo (IsLined M.seen.lines) (active_by M.seen.lines) (met_in M.seen.start M.seen.lines) from asked r) where
+      -- its line fits
+      abbrev Fits : ℕ → What → Type 0
+      Fits n v = answer_fits h (body.Changed w.label n (differs v)) ≡ true
+
+      -- a call, that was told of the difference, and for which it shows
+      caused : (n : ℕ) (v : What) (o : Op) → s.goal ≡ Run o → was_told h n c.act q ≡ true → cause.differs h q n s.x (differs v) ≡ true →
+          Fits n v
+      caused n v o goal told is = or_first (cause.changed_caused h (name w.label) n (differs v))
+          (may_have_changed h (name w.label) n (differs v))
+          (row_so (λ b z. is_call z.event && (was_told h n b z && holds_in (λ x. cause.differs h z n x (differs v)) (object_used z.event)))
+          (λ j. ap is_call (its_event ∙ ap (asks_goal (let g = c.asked.goal in g.0) s.x) goal) j
+          && (told j && (ap (holds_in (λ x. cause.differs h q n x (differs v))) used ∙ is) j)))
+
+      -- or that may have met it
+      partly : (n : ℕ) (v : What) (o : Op) → s.goal ≡ Run o → was_told h n c.act q ≡ true →
+          may_differ h c.act q n s.x (differs v) ≡ true → Fits n v
+      partly n v o goal told is = or_last (cause.changed_caused h (name w.label) n (differs v))
+          (may_have_changed h (name w.label) n (differs v))
+          (row_so (λ b z. is_call z.event && (was_told h n b z && holds_in (λ x. may_differ h b z n x (differs v)) (object_used z.event)))
+          (λ j. ap is_call (its_event ∙ ap (asks_goal (let g = c.asked.goal in g.0) s.x) goal) j
+          && (told j && (ap (holds_in (λ x. may_differ h c.act q n x (differs v))) used ∙ is) j)))
+
+      -- what M.seen has, the row has
+      met_here : (n : ℕ) (b : Binding) (i : ℕ) → IsActiveIn M.seen.start M.seen.lines n s.x b i → IsActiveIn h.start h.lines n s.x b i
+      met_here n b i met = subst (λ z. IsActiveIn h.start z n s.x b i) (sym lines)
+          (subst (λ z. IsActiveIn z M.seen.lines n s.x b i) (sym start) met)
+
+      -- ---- bindings that naming made
+
+      -- naming answers with a binding only to a call
+      bound_to : (avoid : Binding) (z : BoundReply) → s.at ≡ AtBind avoid → r ≡ Reply.Bound z →
+          (says_of hd from (head_of s) (ask.Bind s.x (is_include s.goal) avoid) (Reply.Bound z) T.before → is_include s.goal ≡ false) →
+          (o : Op) × (s.goal ≡ Run o)
+      bound_to avoid z at is says = runs_so s.goal (says (subst (λ y. says_of hd from (head_of s) y (Reply.Bound z) T.before)
+          (bind_is T.ask s.x (is_include s.goal) avoid (T.same ∙ (λ j. ask_at s.x s.goal [] (at j))))
+          (subst (λ y. says_of hd from (head_of s) T.ask y T.before) is T.so)))
+
+      bound_says : (avoid : Binding) (z : BoundReply) → s.at ≡ AtBind avoid → r ≡ Reply.Bound z → naming_told h c.act q ≡ true
+      bound_says avoid z at is = naming_says frame.Bound (sym T.node ∙ ap (λ y. node_at y) at) (ap (λ y. frame_kind (response a y)) is) refl
+
+      bound_reply : (avoid : Binding) (z : BoundReply) → s.at ≡ AtBind avoid → r ≡ Reply.Bound z →
+          BoundSo (IsLined M.seen.lines) (active_by M.seen.lines) (met_in M.seen.start M.seen.lines) s.x (is_include s.goal) z
+      bound_reply avoid z at is = subst
+          (λ y. ReplySo (IsLined M.seen.lines) (active_by M.seen.lines) (met_in M.seen.start M.seen.lines) from y (Reply.Bound z))
+          (bind_is replied.0 s.x (is_include s.goal) avoid (replied.1 ∙ (λ j. ask_at s.x s.goal [] (at j))))
+          (subst (ReplySo (IsLined M.seen.lines) (active_by M.seen.lines) (met_in M.seen.start M.seen.lines) from replied.0) is replied.2)
+
+      count_low : (b : Binding) (n : ℕ) → IsLined M.seen.lines s.x b n → b.count < 4294967296
+      count_low b n lined = under b.count (bindings_made M.seen.lines) (given.small s.x b n lined) few
+        where
+          under : (m k : ℕ) → m ≤ k → k < 4294967295 → m < 4294967296
+          under m k le few = omega (arith, le, few)
+
+      -- of two of them the older one comes first
+      two_bound : (b g : Binding) (m n : ℕ) → IsLined M.seen.lines s.x b m → IsLined M.seen.lines s.x g n → binding_eq b g ≡ false →
+          (is_older (lesser_binding b g) (greater_binding b g) && (was_bound h.lines s.x (lesser_binding b g)
+          && was_bound h.lines s.x (greater_binding b g))) ≡ true
+      two_bound b g m n lb lg off = by (binding_less g b) refl
+        where
+          above : (j k : ℕ) → nat_lt j k ≡ true → j < k
+          above j k is = grind (arith, nat_tests, is)
+
+          other : (j k : ℕ) → nat_lt k j ≡ false → (j == k) ≡ false → j < k
+          other j k not_less off = grind (arith, nat_tests, not_less, off)
+
+          its : (c : Binding) (k : ℕ) → IsLined M.seen.lines s.x c k → was_bound h.lines s.x c ≡ true
+          its c k lined = ap (λ ls. was_bound ls s.x c) lines ∙ bound_then M.seen.lines s.x c k lined
+
+          by : (t : Bool) → binding_less g b ≡ t → (is_older (cond t g b) (cond t b g) && (was_bound h.lines s.x (cond t g b)
+              && was_bound h.lines s.x (cond t b g))) ≡ true
+          by true less = λ i. older_is g b (count_low g n lg) (count_low b m lb) (above (binding_number g) (binding_number b) less) i
+              && (its g n lg i && its b m lb i)
+          by false less = λ i. older_is b g (count_low b m lb) (count_low g n lg)
+              (other (binding_number b) (binding_number g) less off) i && (its b m lb i && its g n lg i)
+
+      -- the root keeps another binding
+      other_so : (avoid : Binding) (z : BoundReply) (b : Binding) (server n : ℕ) (v : What) (o : Op) → s.goal ≡ Run o → s.at ≡ AtBind
+          avoid →
+          r ≡ Reply.Bound z → IsLined M.seen.lines s.x b server → IsOther kept b n v → Fits n v
+      other_so avoid z b server n v o goal at is lined (old, keeps, off, one, two) =
+          let ks = subst (IsKeptSo (IsLined M.seen.lines) (active_by M.seen.lines) (met_in M.seen.start M.seen.lines) s.x) keeps keeps_so in
+          partly n v o goal (naming_tells n (bound_says avoid z at is))
+          (subst (λ y. may_differ h c.act q n s.x (differs y) ≡ true) (sym two)
+          (λ i. eq-eqb n 1 one i && (bound_says avoid z at is i && two_bound old.binding b old.server server ks.0 lined off i)))
+
+      -- ---- incarnations
+
+      -- naming told of two
+      inc_told : (n first i : ℕ) (v : What) (o : Op) → s.goal ≡ Run o → v ≡ two_incs first i → naming_told h c.act q ≡ true → Fits n v
+      inc_told n first i v o goal two told = partly n v o goal (naming_tells n told)
+          (subst (λ y. may_differ h c.act q n s.x (differs y) ≡ true) (sym two) (by (nat_lt i first)))
+        where
+          by : (t : Bool) → may_differ h c.act q n s.x (differs (cond t (what.Inc i first) (what.Inc first i))) ≡ true
+          by true = or_first (naming_told h c.act q) (i == 0) told
+          by false = or_first (naming_told h c.act q) (first == 0) told
+
+      -- a server in another incarnation than the one that the root keeps took a copy
+      activated_so : (x : Known) (u : ObjectState) (i : ℕ) (o : Op) (n : ℕ) (v : What) → s.goal ≡ Run o → s.at ≡ AtActivate x u →
+          r ≡ Reply.Activated i → IsOtherInc kept x.binding i n v → Fits n v
+      activated_so x u i o n v goal at is (old, first, keeps, same, its, has, off, two) =
+          subst (λ y. Fits n y) (sym two) (subst (λ m. Fits m (two_incs first i)) (sym (its ∙ server ∙ its_from)) (by (nat_lt i first)
+              refl))
+        where
+          N : ℕ → Binding → ℕ → Type 0
+          N = IsLined M.seen.lines
+
+          its_from : x.server ≡ from
+          its_from = ap (λ y. node_at y) (sym at) ∙ T.node
+
+          ks : IsKnownSo N (active_by M.seen.lines) (met_in M.seen.start M.seen.lines) s.x old
+          ks = subst (IsKeptSo N (active_by M.seen.lines) (met_in M.seen.start M.seen.lines) s.x) keeps keeps_so
+
+          step : IsAtSo N (active_by M.seen.lines) (met_in M.seen.start M.seen.lines) s.x (Run o) (AtActivate x u)
+          step = subst (λ y. IsAtSo N (active_by M.seen.lines) (met_in M.seen.start M.seen.lines) s.x (Run o) y) at
+              (subst (λ g. IsAtSo N (active_by M.seen.lines) (met_in M.seen.start M.seen.lines) s.x g s.at) goal at_so)
+
+          lined : IsLined M.seen.lines s.x x.binding x.server
+          lined = let k = step.0 in k.0
+
+          binding_same : old.binding ≡ x.binding
+          binding_same = one_binding M.seen.start M.seen.lines given few s.x s.x old.binding x.binding old.server x.server ks.0 lined same
+
+          server : old.server ≡ x.server
+          server = (given.one s.x s.x x.binding old.server x.server
+              (subst (λ b. IsLined M.seen.lines s.x b old.server) binding_same ks.0) lined).1
+
+          -- both incarnations had a copy there
+          met_first : IsActiveIn h.start h.lines from s.x old.binding first
+          met_first = met_here from old.binding first (subst (λ m. IsActiveIn M.seen.start M.seen.lines m s.x old.binding first)
+              (server ∙ its_from) (ks.1 first has few))
+
+          met_i : IsActiveIn h.start h.lines from s.x x.binding i
+          met_i = met_here from x.binding i (subst (λ y. IsActiveIn M.seen.start M.seen.lines from y x.binding i) step.1 (so.1 few))
+            where
+              so : ReplySo N (active_by M.seen.lines) (met_in M.seen.start M.seen.lines) from (ask.Activate x.binding u) (Reply.Activated i)
+              so = subst (λ y. ReplySo N (active_by M.seen.lines) (met_in M.seen.start M.seen.lines) from y (Reply.Activated i))
+                  (activate_is replied.0 x.binding u (replied.1 ∙ (λ j. ask_at s.x s.goal [] (at j))))
+                  (subst (ReplySo N (active_by M.seen.lines) (met_in M.seen.start M.seen.lines) from replied.0) is replied.2)
+
+          -- it said its own
+          said : (incarnation M.seen.start D.before from ≡ i) × AreLow M.seen.start D.before
+          said = subst (λ y. says_differs M.seen.start from (head_of s) y (Reply.Activated i) D.before)
+              (activate_is D.ask x.binding u (D.same ∙ (λ j. ask_at s.x s.goal [] (at j))))
+              (subst (λ y. says_differs M.seen.start from (head_of s) D.ask y D.before) is D.so)
+
+          level : incarnation h.start D.before from ≡ i
+          level = ap (λ z. incarnation z D.before from) start ∙ said.0
+
+          told_it : was_told h from c.act q ≡ true
+          told_it = server_told from frame.Activated refl (ap (λ y. frame_kind (response a y)) is) refl
+
+          above : nat_lt i first ≡ true → i < first
+          above less = grind (arith, nat_tests, less)
+
+          below : nat_lt i first ≡ false → first < i
+          below not_less = grind (arith, nat_tests, not_less, off)
+
+          by : (t : Bool) → nat_lt i first ≡ t → Fits from (cond t (what.Inc i first) (what.Inc first i))
+          by true less = caused from (what.Inc i first) o goal told_it (two_differ h q from s.x i first x.binding (above less) met_i
+              (shown_later h q from s.x D.before D.after (lines ∙ D.are) D.late (subst (λ z. AreLow z D.before) (sym start) said.1) i first
+              level (above less) old.binding met_first))
+          by false less = caused from (what.Inc first i) o goal told_it (two_differ h q from s.x first i old.binding (below less) met_first
+              (shown_at h q from s.x D.before D.after (lines ∙ D.are) D.late i level))
+
+      -- an Invoke found a difference
+      invoked_so : (x : Known) (i : ℕ) (o : Op) (n : ℕ) (v : What) → s.goal ≡ Run o → s.at ≡ AtInvoke x i →
+          r ≡ Reply.Invoked (invoked.Changed v) → n ≡ x.server → Fits n v
+      invoked_so x i o n v goal at is its = subst (λ m. Fits m v) (sym (its ∙ its_from)) (by v refl)
+        where
+          its_from : x.server ≡ from
+          its_from = ap (λ y. node_at y) (sym at) ∙ T.node
+
+          step : IsAtSo (IsLined M.seen.lines) (active_by M.seen.lines) (met_in M.seen.start M.seen.lines) s.x (Run o) (AtInvoke x i)
+          step = subst (λ y. IsAtSo (IsLined M.seen.lines) (active_by M.seen.lines) (met_in M.seen.start M.seen.lines) s.x (Run o) y) at
+              (subst (λ g. IsAtSo (IsLined M.seen.lines) (active_by M.seen.lines) (met_in M.seen.start M.seen.lines) s.x g s.at) goal at_so)
+
+          request : (ends : List (Uid × End)) × (D.ask ≡ ask.Invoke s.x x.binding i ends o)
+          request = invoke_is D.ask s.x x.binding i o (D.same ∙ (λ j. ask_at s.x (goal j) [] (at j)))
+
+          so : Differs M.seen.start from s.x v D.before × ((j k : ℕ) → v ≡ what.Inc j k → j ≡ i)
+          so = (subst (λ y. says_differs M.seen.start from (head_of s) y (Reply.Invoked (invoked.Changed v)) D.before) request.1
+              (subst (λ y. says_differs M.seen.start from (head_of s) D.ask y D.before) is D.so))
+              (few_before D.before D.after (subst HasFewBindings D.are few))
+
+          told_it : was_told h from c.act q ≡ true
+          told_it = server_told from frame.Invoked refl (ap (λ y. frame_kind (response a y)) is) refl
+
+          by : (y : What) → v ≡ y → Fits from v
+          by (what.Inc had now) e = subst (λ z. Fits from z) (sym e) (named step.1)
+            where
+              d : Differs M.seen.start from s.x (what.Inc had now) D.before
+              d = subst (λ z. Differs M.seen.start from s.x z D.before) e so.0
+
+              had_is : had ≡ i
+              had_is = so.1 had now e
+
+              named : IsSaidSo (IsLined M.seen.lines) (active_by M.seen.lines) (met_in M.seen.start M.seen.lines) s.x x.binding x.server i →
+                  Fits from (what.Inc had now)
+              named (inl none) = partly from (what.Inc had now) o goal told_it
+                  (or_last (naming_told h c.act q) (had == 0) (eq-eqb had 0 (had_is ∙ none)))
+              named (inr met) = caused from (what.Inc had now) o goal told_it (two_differ h q from s.x had now x.binding d.0
+                  (met_here from x.binding had (subst (IsActiveIn M.seen.start M.seen.lines from s.x x.binding) (sym had_is)
+                  (subst (λ m. IsActiveIn M.seen.start M.seen.lines m s.x x.binding i) its_from (met few))))
+                  (shown_at h q from s.x D.before D.after (lines ∙ D.are) D.late now
+                  (ap (λ z. incarnation z D.before from) start ∙ d.1)))
+          by (what.Bind had now) e = subst (λ z. Fits from z) (sym e) (caused from (what.Bind had now) o goal told_it
+              (λ j. d.0 j && or_first (from_place h (let z = q in z.at) (had_both from s.x had now))
+              ((from == 1) && (was_bound h.lines s.x had && (was_bound h.lines s.x now && list_any (cause.is_other_call q s.x) h.accepted)))
+              (shown_from h (let z = q in z.at) (had_both from s.x had now) D.before D.after (lines ∙ D.are) D.late d.1) j))
+            where
+              d : Differs M.seen.start from s.x (what.Bind had now) D.before
+              d = subst (λ z. Differs M.seen.start from s.x z D.before) e so.0
+
+      -- naming is of another incarnation than its grant
+      noted_so : (x : Known) (i : ℕ) (o : Op) (n : ℕ) (v : What) → s.goal ≡ Run o → s.at ≡ AtNote x i →
+          r ≡ Reply.Noted (recorded.Changed v) → Fits n v
+      noted_so x i o n v goal at is = subst (λ z. Fits n z) (sym so.1) (partly n (what.Inc x.grant (incarnation M.seen.start D.before 1))
+          o goal
+          (naming_tells n told_it) (or_first (naming_told h c.act q) (x.grant == 0) told_it))
+        where
+          so : (from ≡ 1) × (v ≡ what.Inc x.grant (incarnation M.seen.start D.before 1))
+              × ((x.grant == incarnation M.seen.start D.before 1) ≡ false)
+          so = subst (λ y. says_differs M.seen.start from (head_of s) y (Reply.Noted (recorded.Changed v)) D.before)
+              (record_is D.ask s.x x.binding i x.grant (D.same ∙ (λ j. ask_at s.x s.goal [] (at j))))
+              (subst (λ y. says_differs M.seen.start from (head_of s) D.ask y D.before) is D.so)
+
+          told_it : naming_told h c.act q ≡ true
+          told_it = naming_says frame.Recorded so.0 (ap (λ y. frame_kind (response a y)) is) refl
+
+      -- what changed, in a call
+      pub changed_so : (n : ℕ) (v : What) → IsChange kept s.at r n v → Fits n v
+      changed_so n v (OnLive avoid b server i g stores at is (inl other)) =
+          let run = bound_to avoid (bound.Live b server i g stores) at is (λ so. so) in
+          let so = bound_reply avoid (bound.Live b server i g stores) at is in
+          other_so avoid (bound.Live b server i g stores) b server n v run.0 run.1 at is so.1 other
+      changed_so n v (OnLive avoid b server i g stores at is (inr (old, first, keeps, same, its, has, off, two))) =
+          let run = bound_to avoid (bound.Live b server i g stores) at is (λ so. so) in
+          inc_told n first i v run.0 run.1 two (bound_says avoid (bound.Live b server i g stores) at is)
+      changed_so n v (OnMake avoid b server g stores at is other) =
+          let run = bound_to avoid (bound.Make b server g stores) at is (λ so. so) in
+          let so = bound_reply avoid (bound.Make b server g stores) at is in
+          other_so avoid (bound.Make b server g stores) b server n v run.0 run.1 at is so.1 other
+      changed_so n v (OnActivate x u i at is other) =
+          let run = only_run s.goal kept s.at (AtActivate x u) stands at (λ m off. off) in
+          activated_so x u i run.0 n v run.1 at is other
+      changed_so n v (OnNote x i at is one) =
+          let run = only_run s.goal kept s.at (AtNote x i) stands at (λ m off. off) in noted_so x i run.0 n v run.1 at is
+      changed_so n v (OnInvoke x i at is its) =
+          let run = only_run s.goal kept s.at (AtInvoke x i) stands at (λ m off. off) in invoked_so x i run.0 n v run.1 at is its
 
     -- naming's conflict
     naming_so : (avoid : Binding) (v : Uid) (m : Mode) → s.at ≡ AtBind avoid → r ≡ Reply.Bound (bound.Conflict v m) →

@@ -2,13 +2,13 @@
 use Rattle.arj_law_parts.proofs.Words
 use Words.{⊎_elim, ◌≡◌, ◌⊎◌, ◌≤◌, ◌∙◌, ◌+◌, ◌==◌, ◌++◌, ◌&&◌, ◌||◌, not, ℕ, Bool, true, false, cond, List, [], length, Option, Some, None}
 use Words.{refl, sym, ap, subst, inl, inr, arith, and_parts, eqb-true, eq-eqb, is_some, bytes_eq, In, in_find, in_to}
-use Words.{Ask, Asked, Header, Line, Message, Uid, name, Reply, actor, answers, frame_kind, response, reply_kind}
+use Words.{Head, Post, asked_by, asks, Ask, Asked, Header, Line, Message, Uid, name, Reply, actor, answers, frame_kind, response}
+use Words.{reply_kind}
 use Words.{ask_kind, next_ask, next_node, waits_for_call, Steps, Calling, Doing, doing_of, Disk, Parts, Node, at_place, is_own, Contains}
-use Words.{AtActivate, Binding, Coord, End, Keeping, Kind, ObjectState, binding_eq, binding_number, is_serial, kept_at, kept_of}
-use Words.{no_keeping, no_root, root_at, root_of}
+use Words.{Binding, End, Kind, is_serial, kept_at, kept_of}
+use Words.{root_at, root_of}
 use Words.{Branch, Committing, Idle, Now, branch_of, is_committing_now, is_on, plan_of, uids_of}
 use Words.ask
-use Words.calls
 use Words.kind
 use Rattle.arj_law_serial.proofs.Terms
 use Terms.{Act, Action, AreAlike, AreBegun, AreDistinct, AreFormed, IsAsking, IsBusy, IsNumbered, act_in, action_of, acts, actor_is}
@@ -19,24 +19,19 @@ use Rattle.arj_law_lock_view.proofs.asking.{Tying.own_of}
 use Rattle.arj_law_lock_view.proofs.moments.Answers.{Known}
 use Rattle.arj_law_lock_view.specs.asking.{Asked.AskedAreTied, Asked.IsAskedSo, Asked.IsTied, Asked.count_answers, Asked.count_asks}
 use Rattle.arj_law_lock_view.specs.asking.{Turns.calling}
-use Rattle.arj_law_lock_view.specs.facts.Requests.{IsAskedBy}
-use Rattle.arj_law_lock_view.specs.moments.Made.{AnswersAreMade, AnswersTo, BeginsWith}
+use Rattle.arj_law_lock_view.specs.facts.Requests.{IsAskedBy, RequestsAreKnown}
+use Rattle.arj_law_lock_view.specs.moments.Made.{AnswersAreMade, AnswersTo, BeginsWith, Saying}
 use Rattle.arj_law_parts.proofs.moves.{Flat.post, Happens.Wide}
-use Rattle.arj_law_parts.proofs.parts.LivesNamed.{all_at, keyed_at}
-use Rattle.arj_law_parts.specs.parts.Lives.{Homes, IsAtSo, IsKeptSo, IsKnownSo, IsNowSo, IsRootSo, KnowsServers, Reach}
 use Rattle.arj_law_parts.proofs.parts.{GoodTrees.over_below, TrueSteps.work_there}
 use Rattle.arj_law_parts.specs.parts.{Copies.IsTree, Coords.IsGoodCoord, Coords.IsVoting}
 use Rattle.arj_law_parts.specs.moves.Moments.{Asking, Moment, up}
 use Rattle.arj_law_parts.specs.moves.Seen as seen
-use Rattle.arj_law_runs.proofs.calls.WholeRuns.{WhileFew, home_in, is_home}
 use Rattle.arj_law_runs.proofs.follow.Halts.{KnowsAll, is_alive}
 use Rattle.arj_law_runs.specs.addresses.Addresses.{AreAddressed, IsNode}
 use Rattle.arj_law_runs.specs.addresses.Binds.{StandsOn}
-use Rattle.arj_law_runs.specs.calls.{Bindings.HasFewBindings, Lived.PassesIn}
 use Rattle.arj_law_runs.specs.calls.Coords.{IsOfStep, bare, head_of}
 use Rattle.arj_law_runs.specs.journal.Book.{is_over as over_in}
 use Rattle.arj_law_runs.specs.journal.Knows.{IsWritten}
-use Rattle.arj_law_runs.specs.kept.Worlds.{IsGood}
 use Rattle.arj_model.specs.Actions.{halts, is_halted, path}
 use Rattle.arj_model.specs.Past.{label_of}
 use Rattle.arj_model.specs.Refusals.{has_ended, is_over_act}
@@ -45,6 +40,13 @@ use Rattle.arj_law_lock_view.proofs.view.TreeSteps.{above_there}
 use Rattle.arj_law_runs.specs.journal.{Book.new_book, Right.AreRight}
 use Rattle.arj_law_cause.proofs.rows.Pending.{IsCalledAt, called_book}
 use Rattle.arj_law_cause.proofs.waits.lost.Bound.{ReplyFull, says_full}
+use Rattle.arj_law_cause.proofs.bindings.Asking as bindings
+use Rattle.arj_law_cause.proofs.bindings.Copies.{active_by}
+use Rattle.arj_law_cause.proofs.bindings.Counted.{IsGiven}
+use Rattle.arj_law_cause.proofs.bindings.Lines.{IsLined}
+use Rattle.arj_law_cause.proofs.bindings.Said.{KnowsBindings}
+use Rattle.arj_law_cause.proofs.bindings.Since.{met_in}
+use Rattle.arj_law_cause.proofs.rows.Differing.{differs_so, says_differs}
 use Rattle.arj_law_cause.specs.rows.Says.{says_of, says_so}
 
 some_is : {A : Type 0} {a b : A} → Some a ≡ Some b → a ≡ b
@@ -71,21 +73,6 @@ pub record IsPathAt (lines : List Line) (q : Asking) : Type 0 where
 abbrev pub AskedPaths : Moment → Type 0
 AskedPaths M = (q : Asking) → In q M.past.askings → IsPathAt M.seen.lines q
 
--- ---- what roots keep
-
-kept_so : (home : Homes) (reach : Reach) (s : Steps) (c : Coord) → KnowsServers home reach c → IsKeptSo home reach s.x (kept_at s c)
-kept_so home reach s c knows = keyed_at (λ y (z : Keeping). IsKeptSo home reach y z.kept) no_keeping s.x tt
-    (let r = root_at (root_of s.path) c in r.keeping)
-    (all_at (IsRootSo home reach) no_root tt (let u = root_of s.path in u.num) c.roots knows.roots)
-
--- whatever servers reached
-abbrev any_reach : Reach
-any_reach j y n i = true
-
-any_passes : (j i : ℕ) (o : Option Parts) → PassesIn any_reach j i o
-any_passes j i None = λ y n. refl
-any_passes j i (Some t) = λ y n c at low. refl
-
 -- ---- a node at work
 
 pub record Works (hd : Header) (k : ℕ) (d : Disk) (t : Parts) (M : Moment) : Type 0 where
@@ -96,7 +83,8 @@ pub record Works (hd : Header) (k : ℕ) (d : Disk) (t : Parts) (M : Moment) : T
   pub addressed : Wide (AreAddressed hd) (up k d t M)
   pub made : AnswersAreMade (says_so hd) (up k d t M)
   pub full : AnswersAreMade says_full (up k d t M)
-  pub lives : Wide (WhileFew IsGood) (up k d t M)
+  pub bindings : Wide KnowsBindings (up k d t M)
+  pub differs : AnswersAreMade (differs_so M.seen.start) (up k d t M)
   pub form : HeaderInForm hd
 
 -- The action that waits, in the journal's words: it's open, has one more asked than answered, and waits for that.
@@ -131,6 +119,16 @@ pub record IsTaken (hd : Header) (k from : ℕ) (M : Moment) (s : Steps) (q : As
   pub late : (let e = q.asked in e.at) ≤ length before
   pub framed : (from ≡ k) ⊎ BeginsWith from k (frame_kind (response a r)) after
   pub so : says_of hd from (head_of s) ask r before
+
+-- The answer was made where something changed, if it finds that.
+pub record IsTold (from : ℕ) (M : Moment) (s : Steps) (q : Asking) (r : Reply) : Type 0 where
+  pub ask : Ask
+  pub same : bare ask ≡ next_ask [] s
+  pub before : List Line
+  pub after : List Line
+  pub are : M.seen.lines ≡ before ++ after
+  pub late : (let e = q.asked in e.at) ≤ length before
+  pub so : says_differs M.seen.start from (head_of s) ask r before
 
 module _ (hd : Header) (k : ℕ) (d : Disk) (t : Parts) (M : Moment) (W : Works hd k d t M) (u : Uid) (w : Doing) (s : Steps)
     (found : doing_of u t.coord ≡ Some w) (is : w.now ≡ Calling s) where
@@ -329,77 +327,121 @@ module _ (hd : Header) (k : ℕ) (d : Disk) (t : Parts) (M : Moment) (W : Works 
       let n = b.nodes k mine_node t here refl in
       n.steps u w s found is
 
-  -- what the root keeps under the binding that is activated is of the server that is asked
-  pub one_server : HasFewBindings M.seen.lines → (x old : calls.Known) (st : ObjectState) → s.at ≡ AtActivate x st →
-      kept_at s t.coord ≡ Some old → binding_eq old.binding x.binding ≡ true → old.server ≡ x.server
-  one_server few x old st at keeps same =
-      let l = (W.lives.2.1 few).0.0 in
-      let gs = l.0 in
-      let lived = l.1 in
-      let home = home_in l.0 in
-      let f = lived.lived (home_in l.0) any_reach (is_home l.0 lived.apart) (record {
-        zero = λ j y n. refl;
-        nodes = λ j m there. record { past = λ y n h less. refl; here = any_passes j (let e = m.disk in e.inc) m.live };
-      }) in
-      let mine = (f.nodes k mine_node here t refl).0 in
-      let works : IsNowSo home any_reach (Calling s) = subst (IsNowSo home any_reach) is (mine.works u w found) in
-      let known : IsKnownSo home any_reach s.x x = (subst (IsAtSo home any_reach s.x) at works).0 in
-      let kept : IsKnownSo home any_reach s.x old = subst (IsKeptSo home any_reach s.x) keeps (kept_so home any_reach s t.coord mine) in
-      kept.0 ∙ ap home (eqb-true (binding_number old.binding) (binding_number x.binding) same) ∙ sym known.0
+  -- what is known of the step's binding, and of the one that the root keeps
+  its_bindings : bindings.AreAtSo (IsLined M.seen.lines) (active_by M.seen.lines) (met_in M.seen.start M.seen.lines) t.coord
+  its_bindings = let says = W.bindings.2.1.0 in (says.works k mine_node t here refl).0
+
+  pub step_so : bindings.IsAtSo (IsLined M.seen.lines) (active_by M.seen.lines) (met_in M.seen.start M.seen.lines) s.x s.goal s.at
+  step_so = subst (bindings.IsNowSo (IsLined M.seen.lines) (active_by M.seen.lines) (met_in M.seen.start M.seen.lines)) is
+      (let b = its_bindings in b.works u w found)
+
+  pub kept_binding : bindings.IsKeptSo (IsLined M.seen.lines) (active_by M.seen.lines) (met_in M.seen.start M.seen.lines) s.x
+      (kept_at s t.coord)
+  kept_binding = bindings.kept_of_call (IsLined M.seen.lines) (active_by M.seen.lines) (met_in M.seen.start M.seen.lines) s t.coord
+      its_bindings
+
+  -- bindings of the lines have small counts, above 0, and one server each
+  pub given : IsGiven M.seen.start M.seen.lines
+  given = W.bindings.2.0.1.1.0
 
   -- ---- an answer is taken
 
   module _ (from : ℕ) (m : Message) (sent_it : seen.In (post from k m) M.seen.sent) (a : Asked) (r : Reply) (answer : answers m ≡ Some
       (a, r))
       (act : a.act ≡ u) (waits : waits_for_call from a r s ≡ true) where
-    ans : AnswersTo (says_so hd) ⊥ (up k d t M) from k a r
-    ans = W.made.sent (post from k m) a r sent_it answer
-
     parts : ((s.req == a.req) ≡ true) × (((reply_kind r == ask_kind (next_ask [] s)) ≡ true) × ((next_node s == from) ≡ true))
     parts =
         let p = and_parts (s.req == a.req) ((reply_kind r == ask_kind (next_ask [] s)) && (next_node s == from)) waits in
         let q = and_parts (reply_kind r == ask_kind (next_ask [] s)) (next_node s == from) p.1 in (p.0, (q.0, q.1))
 
-    asker : actor (let h = ans.0 in h.path) ≡ u
-    asker = ap (λ (b : Asked). b.act) ans.2 ∙ act
+    its_node : next_node s ≡ from
+    its_node = eqb-true (next_node s) from parts.1.1
 
-    req_is : (let h = ans.0 in h.req) ≡ w.req
-    req_is = ap (λ (b : Asked). b.req) ans.2 ∙ sym (eqb-true s.req a.req parts.0) ∙ number
+    -- the request that it answers is the step's
+    module _ (all : Wide RequestsAreKnown (up k d t M)) (h : Head) (asked : Ask) (same : asked_by h ≡ a) (request : Post)
+        (posted : In request all.0) (asking_it : asks request.message ≡ Some (h, asked)) (its_from : request.from ≡ k) where
+      asker : actor h.path ≡ u
+      asker = ap (λ (b : Asked). b.act) same ∙ act
 
-    asked_by_it : IsAskedBy t.coord (let q = ans.3 in let p = q.request in p.to) ans.0 ans.1
-    asked_by_it =
-        let q = ans.3 in
-        W.known.2.0.1 k mine_node t here refl q.request ans.0 ans.1 (W.known.1 q.request q.posted) q.from q.asking
-        (ap (λ v. is_own v t.coord.tree) asker ∙ own)
+      req_is : h.req ≡ w.req
+      req_is = ap (λ (b : Asked). b.req) same ∙ sym (eqb-true s.req a.req parts.0) ∙ number
 
-    doing_is : (let q = asked_by_it in q.doing) ≡ w
-    doing_is = let q = asked_by_it in some_is (sym q.found ∙ ap (λ v. doing_of v t.coord) asker ∙ found)
+      asked_by_it : IsAskedBy t.coord request.to h asked
+      asked_by_it = all.2.1 k mine_node t here refl request h asked posted its_from asking_it
+          (ap (λ v. is_own v t.coord.tree) asker ∙ own)
 
-    of_step : IsOfStep s (let q = ans.3 in let p = q.request in p.to) ans.0 ans.1
-    of_step = let q = asked_by_it in
-        q.step s (ap (λ (x : Doing). x.now) doing_is ∙ is) (req_is ∙ ap (λ (x : Doing). x.req) (sym doing_is))
+      doing_is : (let q = asked_by_it in q.doing) ≡ w
+      doing_is = let q = asked_by_it in some_is (sym q.found ∙ ap (λ v. doing_of v t.coord) asker ∙ found)
+
+      of_step : IsOfStep s request.to h asked
+      of_step = let q = asked_by_it in
+          q.step s (ap (λ (x : Doing). x.now) doing_is ∙ is) (req_is ∙ ap (λ (x : Doing). x.req) (sym doing_is))
+
+    abbrev requests : Wide RequestsAreKnown (up k d t M)
+    requests = (W.known.0, W.known.1, W.known.2.0)
+
+    -- so it is of an answer that was made where something held
+    module _ (S : Saying) (ans : AnswersTo S ⊥ (up k d t M) from k a r) where
+      made_by : IsOfStep s (let q = ans.3 in let p = q.request in p.to) ans.0 ans.1
+      made_by = let q = ans.3 in of_step requests ans.0 ans.1 ans.2 q.request (W.known.1 q.request q.posted) q.asking q.from
+
+      late : (let c = caller in let q = c.asked in let z = q.asking in let e = z.asked in e.at) ≤ (let q = ans.3 in let z = q.made in
+          length z.before)
+      unfolding caller
+      late =
+          let q = ans.3 in
+          let z = q.made in
+          let c = call.1 in
+          z.behind c.asking c.there (c.act ∙ sym (asker requests ans.0 ans.1 ans.2 q.request (W.known.1 q.request q.posted) q.asking
+              q.from))
+          (low (req_is requests ans.0 ans.1 ans.2 q.request (W.known.1 q.request q.posted) q.asking q.from) c.first)
+        where
+          low : {m n : ℕ} → m ≡ w.req → n ≤ w.req → n ≤ m
+          low is le = omega (arith, le, is)
 
     pub taken : IsTaken hd k from M s (let c = caller in let q = c.asked in q.asking) a r
-    unfolding caller
     taken =
+        let ans = W.made.sent (post from k m) a r sent_it answer in
         let q = ans.3 in
-        let z = q.made in
-        let c = call.1 in record {
+        let z = q.made in record {
           ask = ans.1;
-          same = (let o = of_step in o.same);
-          node = eqb-true (next_node s) from parts.1.1;
+          same = (let o = made_by (says_so hd) ans in o.same);
+          node = its_node;
           sender = (let p = W.addressed.2.1.1 (post from k m) (W.addressed.1 (post from k m) sent_it) in p.0);
           before = z.before;
           after = z.after;
           are = z.are;
-          late = z.behind c.asking c.there (c.act ∙ sym asker) (low c.first);
+          late = late (says_so hd) ans;
           framed = ⊎_elim (λ here. inl here) (λ f. inr (⊎_elim {C = BeginsWith from k (frame_kind (response a r)) z.after}
               (λ b. subst (λ x. BeginsWith from k (frame_kind (response x r)) z.after) ans.2 b) (λ never. absurd never) f)) z.framed;
-          so = subst (λ h. says_of hd from h ans.1 r z.before) (let o = of_step in o.head) z.so;
+          so = subst (λ h. says_of hd from h ans.1 r z.before) (let o = made_by (says_so hd) ans in o.head) z.so;
         }
-      where
-        low : {n : ℕ} → n ≤ w.req → n ≤ (let h = ans.0 in h.req)
-        low le = omega (arith, le, req_is)
+
+    -- where it finds something changed
+    pub told : IsTold from M s (let c = caller in let q = c.asked in q.asking) r
+    told =
+        let ans = W.differs.sent (post from k m) a r sent_it answer in
+        let q = ans.3 in
+        let z = q.made in record {
+          ask = ans.1;
+          same = (let o = made_by (differs_so M.seen.start) ans in o.same);
+          before = z.before;
+          after = z.after;
+          are = z.are;
+          late = late (differs_so M.seen.start) ans;
+          so = subst (λ h. says_differs M.seen.start from h ans.1 r z.before)
+              (let o = made_by (differs_so M.seen.start) ans in o.head) z.so;
+        }
+
+    -- what it says of bindings
+    pub replied : (asked : Ask) × (bare asked ≡ next_ask [] s)
+        × bindings.ReplySo (IsLined M.seen.lines) (active_by M.seen.lines) (met_in M.seen.start M.seen.lines) from asked r
+    replied =
+        let says = W.bindings.2.1.0 in
+        let p = says.sent (post from k m) (W.bindings.1 (post from k m) sent_it) in
+        let z = p.answering a r answer in
+        let o = of_step (W.bindings.0, W.bindings.1, W.bindings.2.0.0.0) z.head z.ask z.same z.request z.posted z.asking z.from in
+        (z.ask, o.same, z.so)
 
     -- it names some store, where it goes on to load
     pub full_reply : ReplyFull r

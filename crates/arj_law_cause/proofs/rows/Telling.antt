@@ -87,12 +87,12 @@ same_reply from h r q front outs same =
 
 -- ---- what a request is served with
 
-abbrev init_of : List Effect → List Effect
+abbrev pub init_of : List Effect → List Effect
 init_of [] = []
 init_of (e ∷ []) = []
 init_of (e ∷ f ∷ es) = e ∷ init_of (f ∷ es)
 
-init_is : (es : List Effect) (e : Effect) → init_of (es ++ e ∷ []) ≡ es
+pub init_is : (es : List Effect) (e : Effect) → init_of (es ++ e ∷ []) ≡ es
 init_is [] e = refl
 init_is (a ∷ []) e = refl
 init_is (a ∷ b ∷ es) e = ap (λ xs. a ∷ xs) (init_is (b ∷ es) e)

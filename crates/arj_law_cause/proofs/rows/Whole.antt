@@ -11,23 +11,20 @@ use Rattle.arj_law_parts.proofs.Terms.which
 use Rattle.arj_law_serial.proofs.Terms.{IsAtStarts}
 use Rattle.arj_law_lock_view.proofs.asking.{Keeping.first_tied, Keeping.tied_step, Tied.Pathed, Tied.paths_of_wide, Tied.pathed_wide}
 use Rattle.arj_law_lock_view.specs.asking.Asked.{AskedAreTied, accepted_of}
+use Rattle.arj_law_lock_view.specs.moments.Made.{AnswersAreMade}
 use Rattle.arj_law_parts.proofs.moves.{Happens.Wide, Happens.keeps_asked, Happens.wide_kept}
 use Rattle.arj_law_parts.specs.moves.Moments.{History, Moment, come, gone, no_history, up}
 use Rattle.arj_law_parts.specs.moves.With.{KeepsSteps, KeepsWith, asked_at, asked_of_node, look, past_event, past_unless, written}
 use Rattle.arj_law_parts.specs.steps.Writes as writes
 use Rattle.arj_law_runs.proofs.addresses.Runs.{kept}
-use Rattle.arj_law_runs.proofs.calls.{Given.keeps_given, WholeRuns.WhileFew, WholeRuns.few_go}
 use Rattle.arj_law_runs.proofs.follow.Along.{Ended, Outcome, Went, event_of, runs_along}
 use Rattle.arj_law_runs.proofs.follow.Frames as frames
 use Rattle.arj_law_runs.proofs.follow.Halts.{KnowsAll, halts_keep}
 use Rattle.arj_law_runs.proofs.follow.Reasons.{joined, refused_by_any}
 use Rattle.arj_law_runs.proofs.follow.Refusing as refusing
 use Rattle.arj_law_runs.proofs.follow.Refusing.{Came, IsRefused, IsRun, same_bodies}
-use Rattle.arj_law_runs.proofs.kept.AllRuns.{all_keep}
 use Rattle.arj_law_runs.specs.addresses.Addresses.{AreAddressed}
-use Rattle.arj_law_runs.specs.calls.Runs.{KnowsFew}
 use Rattle.arj_law_runs.specs.follow.Frames.{FramesStep, are_so, run_events}
-use Rattle.arj_law_runs.specs.kept.Worlds.{IsGood}
 use Rattle.arj_journal.specs.ScriptForm.{HeaderInForm}
 use Rattle.arj_model.specs.CauseSpans.{here_at}
 use Rattle.arj_model.specs.Actions.{acts, path}
@@ -40,6 +37,8 @@ use Rattle.arj_law_cause.proofs.rows.Lined
 use Rattle.arj_law_cause.proofs.rows.Running
 use Rattle.arj_law_cause.proofs.rows.Running.{Beside, InEvent, StandsSo, event_step, steps_both}
 use Rattle.arj_law_cause.proofs.rows.Locked.{LoadsAreLocked, first_locked, locked_step, more_are}
+use Rattle.arj_law_cause.proofs.rows.Differing.{differs_so}
+use Rattle.arj_law_cause.proofs.rows.Starting.{Differing, differing_keep}
 use Rattle.arj_law_cause.proofs.rows.Taking.{AskedPaths, Works}
 use Rattle.arj_law_cause.proofs.waits.lost.Bound.{Stocked, stocked_keep}
 use Rattle.arj_law_cause.proofs.confirm.{Joined.early_before, Runs.runs_early}
@@ -69,7 +68,7 @@ module _ (hd : Header) (form : HeaderInForm hd) (st : Start) where
   -- ---- what is known
 
   abbrev Knows : Moment → Type 0
-  Knows M = Wide Pathed M × (Wide KnowsAll M × (Wide (AreAddressed hd) M × (Stocked hd M × Wide (WhileFew IsGood) M)))
+  Knows M = Wide Pathed M × (Wide KnowsAll M × (Wide (AreAddressed hd) M × (Stocked hd M × Differing st M)))
 
   abbrev Tied : Moment → Type 0
   Tied M = Knows M × AskedAreTied M
@@ -80,19 +79,16 @@ module _ (hd : Header) (form : HeaderInForm hd) (st : Start) where
   names_wide : KeepsWith hd (IsAtStarts hd (AreAddressed hd)) (Wide (AreAddressed hd))
   names_wide = wide_kept hd (IsAtStarts hd (AreAddressed hd)) (AreAddressed hd) (kept hd form)
 
-  lives_wide : KeepsWith hd (IsAtStarts hd (WhileFew IsGood)) (Wide (WhileFew IsGood))
-  lives_wide = wide_kept hd (IsAtStarts hd (WhileFew IsGood)) (WhileFew IsGood) (keeps_asked hd (WhileFew IsGood)
-      (few_go hd IsGood (keeps_given hd KnowsFew IsGood (all_keep hd))))
-
   knows_steps : KeepsSteps hd Knows
   knows_steps =
-      let kept = steps_both hd (Stocked hd) (Wide (WhileFew IsGood)) (let k = stocked_keep hd form in k.steps)
-      (let k = lives_wide in k.steps) in
-      let named = steps_both hd (Wide (AreAddressed hd)) (λ M. Stocked hd M × Wide (WhileFew IsGood) M)
+      let kept = steps_both hd (Stocked hd) (Differing st) (let k = stocked_keep hd form in k.steps)
+      (let k = differing_keep st hd in k.steps) in
+      let named = steps_both hd (Wide (AreAddressed hd)) (λ M. Stocked hd M × Differing st M)
       (let k = names_wide in k.steps) kept in
-      steps_both hd (Wide Pathed) (λ M. Wide KnowsAll M × (Wide (AreAddressed hd) M × (Stocked hd M × Wide (WhileFew IsGood) M)))
+      steps_both hd (Wide Pathed)
+      (λ M. Wide KnowsAll M × (Wide (AreAddressed hd) M × (Stocked hd M × Differing st M)))
       (let k = pathed_wide hd in k.steps)
-      (steps_both hd (Wide KnowsAll) (λ M. Wide (AreAddressed hd) M × (Stocked hd M × Wide (WhileFew IsGood) M))
+      (steps_both hd (Wide KnowsAll) (λ M. Wide (AreAddressed hd) M × (Stocked hd M × Differing st M))
       (let k = halts_wide in k.steps) named)
 
   tied_steps : KeepsSteps hd Tied
@@ -115,7 +111,8 @@ module _ (hd : Header) (form : HeaderInForm hd) (st : Start) where
     addressed = h.1.0.1.1.0;
     made = h.0.1;
     full = h.1.0.1.1.1.0.1;
-    lives = h.1.0.1.1.1.1;
+    bindings = h.1.0.1.1.1.1.0.1;
+    differs = subst (λ z. AnswersAreMade (differs_so z) (up k d t M)) (sym h.1.0.1.1.1.1.0.0) h.1.0.1.1.1.1.1;
     form = form;
   }
 
@@ -125,7 +122,7 @@ module _ (hd : Header) (form : HeaderInForm hd) (st : Start) where
         let both = steps_both hd (InEvent hd before event) Tied (event_step hd before event early) tied_steps in
         Lined.lined_step hd st before event (λ M. (InEvent hd before event M × Tied M) × LoadsAreLocked M)
         (locked_step hd (λ M. InEvent hd before event M × Tied M) both (λ k d t M h. works before event k d t M h))
-        (λ k d t M h. works before event k d t M h.0) (λ k d t M h. h.1);
+        (λ k d t M h. works before event k d t M h.0) (λ k d t M h. h.1) (λ k d t M h. h.0.1.0.1.1.1.1.0.0);
     knows = λ before event M h. h.0.0.0;
     opens = λ e M first number h. (
       (
@@ -134,7 +131,13 @@ module _ (hd : Header) (form : HeaderInForm hd) (st : Start) where
             h.0.0.0.0,
             (
               h.0.0.0.1.0,
-              (h.0.0.0.1.1.0, ((let k = stocked_keep hd form in k.opens e M first number h.0.0.0.1.1.1.0), h.0.0.0.1.1.1.1)),
+              (
+                h.0.0.0.1.1.0,
+                (
+                  (let k = stocked_keep hd form in k.opens e M first number h.0.0.0.1.1.1.0),
+                  (let k = differing_keep st hd in k.opens e M first number h.0.0.0.1.1.1.1),
+                ),
+              ),
             ),
           ),
           (let t = h.0.0.1 in record { tied = t.tied; new = t.new }),
@@ -163,7 +166,10 @@ module _ (hd : Header) (form : HeaderInForm hd) (st : Start) where
               h.0.0.1.0.1.0,
               (
                 h.0.0.1.0.1.1.0,
-                ((let k = stocked_keep hd form in k.closes bodies M number lines h.0.0.1.0.1.1.1.0), h.0.0.1.0.1.1.1.1),
+                (
+                  (let k = stocked_keep hd form in k.closes bodies M number lines h.0.0.1.0.1.1.1.0),
+                  (let k = differing_keep st hd in k.closes bodies M number lines h.0.0.1.0.1.1.1.1),
+                ),
               ),
             ),
           ),
@@ -385,7 +391,7 @@ module _ (hd : Header) (form : HeaderInForm hd) (st : Start) where
             ([], (λ p i. i), (let k = halts_wide in k.first st formed)),
             (
               ([], (λ p i. i), (let k = names_wide in k.first st formed)),
-              ((let k = stocked_keep hd form in k.first st formed), ([], (λ p i. i), (let k = lives_wide in k.first st formed))),
+              ((let k = stocked_keep hd form in k.first st formed), (let k = differing_keep st hd in k.first formed)),
             ),
           ),
         ),
