@@ -29,7 +29,7 @@ use Rattle.arj_cause_tests.proofs.Worked.{conflict, exclusion, inclusion, lost_l
 use Rattle.arj_cause_tests.proofs.Worked.{rebinding}
 use Rattle.arj_cause_tests.proofs.Worked.{stop_at_decision_done}
 use Rattle.arj_cause_tests.proofs.Rare.{aborted_conflict, aborted_lost, changed_bind_naming}
-use Rattle.arj_cause_tests.proofs.Rarer.{conflict_pending}
+use Rattle.arj_cause_tests.proofs.Rarer.{changed_bind_server, conflict_pending}
 use Rattle.arj_cause_tests.proofs.WrongEvents.{begins, two_nodes}
 use Rattle.arj_cause_tests.proofs.WrongShows.{failing_from}
 
@@ -74,6 +74,13 @@ changed = refl
 -- nobody tells what changed
 changed_untold : failing answer_fits (without 23 changed_bind_naming) ≡ 26 ∷ []
 changed_untold = refl
+
+-- of two copies the newer one is said first; and of two bindings naming made one alone
+changed_order : failing answer_fits (instead 53 (body.Changed (l 84) 2 (difference.Bind (b 2 1) (b 1 1))) changed_bind_server) ≡ 53 ∷ []
+changed_order = refl
+
+changed_bound : failing answer_fits (instead 27 (body.Changed (l 68) 1 (difference.Bind (b 1 1) (b 2 2))) changed_bind_naming) ≡ 27 ∷ []
+changed_bound = refl
 
 -- a store says a conflict: another one than loaded, and a lock that no store has
 stores_conflict : failing answer_fits (instead 47 (body.Conflict (l 66) (u 2 1 1) Write 4) conflict_pending) ≡ 47 ∷ []
