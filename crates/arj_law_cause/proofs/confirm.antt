@@ -6,6 +6,8 @@ pub mod Free
 pub mod Included
 pub mod Joined
 pub mod Labels
+pub mod Olds
+pub mod Opened
 pub mod Plain
 pub mod Reached
 pub mod Refused
@@ -13,3 +15,4 @@ pub mod Replies
 pub mod Runs
 pub mod Says
 pub mod Spans
+pub mod Versions

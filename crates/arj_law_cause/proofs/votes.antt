@@ -4,12 +4,14 @@
 -- surviving write by the journal (`Surviving`). So it is of what a server voted, whatever naming has forgotten since (`Voted`), and at each
 -- moment of a run (`Written`). Whoever is asked to prepare something gets a state (`Filled`), of an object that its top has changed (`Asks`), by
 -- these lines and by more (`Growing`). So each line that says that something is prepared has its cause (`Lines`, `Prepared`).
+-- moment of a run (`Written`).
+pub mod Above
 pub mod Applied
+pub mod Asks
+pub mod Filled
+pub mod Growing
+pub mod Lines
+pub mod Prepared
 pub mod Surviving
 pub mod Voted
 pub mod Written
-pub mod Filled
-pub mod Growing
-pub mod Asks
-pub mod Lines
-pub mod Prepared

@@ -1,6 +1,6 @@
 -- At each moment of a run: of what a commit under way has changed its top has written the object, by the journal.
 use Rattle.arj_law_parts.proofs.Words
-use Words.{⊤, cond, ◌≡◌, ◌∙◌, ℕ, true, List, Some, refl, sym, ap, subst, is_some, Header, ObjectState, Uid, Disk, Parts, Seen}
+use Words.{⊤, cond, ◌≡◌, ◌≤◌, ◌∙◌, ℕ, true, List, Some, refl, sym, ap, subst, is_some, Header, ObjectState, Uid, Disk, Parts, Seen}
 use Words.{Committing, Doing, Machine, Post, changed_of, doing_of, In, plan_of}
 use Rattle.arj_law_serial.proofs.Terms
 use Terms.{Act, Action, HeaderInForm, IsAlikeOf, IsSeenIn, KnowsFew, Spot, State, Values, World, acts, acts_of, paths_of}
@@ -20,7 +20,7 @@ use Rattle.arj_model.specs.CausePends.{has_written}
 use Rattle.arj_law_cause.specs.rows.Early.{IsEarly}
 use Rattle.arj_law_cause.proofs.confirm.{Joined.beside, Labels.reached_world, Labels.world_of, Reached.IsOfWorld}
 use Rattle.arj_law_cause.proofs.confirm.{Reached.Reached, Reached.sees_at, Reached.within_of, Reached.world_at}
-use Rattle.arj_law_cause.proofs.votes.{Surviving.merged_written, Voted.voted_called}
+use Rattle.arj_law_cause.proofs.votes.{Above.changed_above, Surviving.merged_written, Voted.voted_called}
 
 -- the object is seen by its lock machine, with all that was sent and more
 record HasMachine (hd : Header) (x : ℕ) (S : Seen) : Type 0 where
@@ -136,3 +136,7 @@ module _ (hd : Header) (x : ℕ) (form : HeaderInForm hd) (there : is_some (obje
         let c = voted_called f x S u (plan_of m) (voters_left m) votes one st is in
         merged_written values N.lines right x S tied a i c.0 c.1 c.2 (c.3 ∙ ap f.act (sym uid))
         (subst (λ (w : Uid). Merged S c.0.act (f.act w)) (sym uid) c.4)
+
+    -- and the state is of a version above zero
+    pub changed_version : (st : ObjectState) → changed_of x (plan_of m) ≡ Some st → 1 ≤ st.version
+    changed_version st is = changed_above f x S u (plan_of m) (voters_left m) votes st is
