@@ -8,6 +8,7 @@ pub mod Joined
 pub mod Labels
 pub mod Olds
 pub mod Opened
+pub mod Outdated
 pub mod Plain
 pub mod Reached
 pub mod Refused

@@ -7,10 +7,11 @@ use Words.{◌≡◌, ◌≤◌, ◌<◌, ◌⊎◌, ◌∙◌, ◌+◌, ◌++�
 use Words.{refl, sym, ap, subst, inl, inr, arith, nat_tests, nat_lt, AllByRecursion, and_parts, cons_option, option_map, Body, Line, Uid}
 use Words.{Header, ObjectState, name, is_on, is_old, next_version, state_eq, uid_eq, uid_is, most_labels, again_all, begin_action}
 use Words.{Disk, Do, Effect, Say, Send, Parts, worked, acts as does, parent_of, parts_in, restart_outs, tick_outs, with_coord, is_serial}
-use Words.{Seen, Start, IsFormed, bytes_eq, uid_same}
+use Words.{⊤, Seen, Start, IsFormed, bytes_eq, uid_same}
 use Words.body
 use Rattle.arj_base.specs.declared.limits.TheConstants.{LAST_VERSION}
 use Rattle.arj_law_parts.proofs.Terms.{KeepsAsked, Up, Walks}
+use Rattle.arj_law_parts.specs.moves.Keeps.{IsAtStarts, KeepsFrom}
 use Rattle.arj_law_parts.specs.moves.Seen.{given, posted, said as with_lines}
 use Rattle.arj_law_runs.proofs.journal.{Books.decided_later, Books.later_from, Books.book_more, Models.its_acts, Models.its_decision}
 use Rattle.arj_law_runs.specs.journal.Book.{Book, book, book_from, is_decided, new_book, turned, with_named}
@@ -257,29 +258,40 @@ decided_more before after u is = subst (λ (B : Book). is_decided B u ≡ true) 
 
 -- ---- where the run began
 
-module _ (hd : Header) where
+module _ (P : Start → Type 0) where
   abbrev Began : Seen → Type 0
-  Began M = IsFormed hd M.start
+  Began M = P M.start
 
   walk : (e k : ℕ) (outs : List Effect) (v : Parts) (d : Disk) (N : Seen) → Began N → Walks Began e k outs (Up Began k v) d N
-  walk e k [] v d N formed = formed
-  walk e k (Do z ∷ es) v d N formed = (λ how. formed, walk e k es v (worked z d) N formed)
-  walk e k (Say b ∷ es) v d N formed = walk e k es v d (with_lines e (b ∷ []) N) formed
-  walk e k (Send to m ∷ es) v d N formed =
-      λ more quiet. walk e k es v d (with_lines e more (posted (record { from = k; to = to; message = m }) N)) formed
+  walk e k [] v d N its = its
+  walk e k (Do z ∷ es) v d N its = (λ how. its, walk e k es v (worked z d) N its)
+  walk e k (Say b ∷ es) v d N its = walk e k es v d (with_lines e (b ∷ []) N) its
+  walk e k (Send to m ∷ es) v d N its =
+      λ more quiet. walk e k es v d (with_lines e more (posted (record { from = k; to = to; message = m }) N)) its
 
-  -- the start of what is seen stays formed
-  pub starts_keep : KeepsAsked hd Began
-  starts_keep = record {
-    quiet = λ e bs M quiet formed. formed;
-    stop = λ e k d live M formed. formed;
-    message = λ e k d t v from m outs M formed sent meant is. walk e k outs v d M formed;
-    act = λ e k d t i M is asks free formed. let did = does i d.intents t.coord in walk e k did.outs (with_coord t did.part) d M formed;
-    begin = λ e k d t l how parent M new may free formed.
+  -- what holds of the start stays so
+  starts_stay : (hd : Header) (F : Type 0) → F → KeepsFrom hd F (λ (M : Seen). P M.start)
+  starts_stay hd F first = record {
+    quiet = λ e bs M quiet its. its;
+    stop = λ e k d live M its. its;
+    message = λ e k d t v from m outs M its sent meant is. walk e k outs v d M its;
+    act = λ e k d t i M is asks free its. let did = does i d.intents t.coord in walk e k did.outs (with_coord t did.part) d M its;
+    begin = λ e k d t l how parent M new may free its.
         let did = begin_action l how parent (parent_of parent t.coord) t.coord in
-        walk e k did.outs (with_coord t did.part) d (given l (record { node = k; serial = is_serial how }) M) formed;
-    tick = λ e k d t M formed. walk e k (tick_outs (record { number = k; disk = d; live = Some t }) t)
-        (with_coord t (let r = again_all t.coord.doings t.coord in r.part)) d M formed;
-    restart = λ e k d M formed. walk e k (restart_outs hd k (d.inc + 1) d) (parts_in k (d.inc + 1) d) d M formed;
-    first = λ st formed. formed;
+        walk e k did.outs (with_coord t did.part) d (given l (record { node = k; serial = is_serial how }) M) its;
+    tick = λ e k d t M its. walk e k (tick_outs (record { number = k; disk = d; live = Some t }) t)
+        (with_coord t (let r = again_all t.coord.doings t.coord in r.part)) d M its;
+    restart = λ e k d M its. walk e k (restart_outs hd k (d.inc + 1) d) (parts_in k (d.inc + 1) d) d M its;
+    first = first;
   }
+
+-- the start of what is seen is formed
+pub starts_keep : (hd : Header) → KeepsAsked hd (λ (M : Seen). IsFormed hd M.start)
+starts_keep hd = starts_stay (IsFormed hd) hd (IsAtStarts hd (λ (M : Seen). IsFormed hd M.start)) (λ st formed. formed)
+
+-- it is that of the run
+abbrev pub BeganSo : Start → Seen → Type 0
+BeganSo st M = M.start ≡ st
+
+pub began_so : (hd : Header) (st : Start) → KeepsFrom hd ⊤ (BeganSo st)
+began_so hd st = starts_stay (λ s. s ≡ st) hd ⊤ tt

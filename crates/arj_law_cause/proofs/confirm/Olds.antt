@@ -128,7 +128,7 @@ of_objects (t ∷ ts) all s (inl same) = subst (λ (z : ObjectState). z.uid ≡ 
 of_objects (t ∷ ts) all s (inr more) = of_objects ts (and_parts (not (names_object t.uid ts)) (are_of_objects ts)
     (and_parts (is_object t.uid) (not (names_object t.uid ts) && are_of_objects ts) all).1).1 s more
 
-each_has : (hd : Header) (ss : List ObjectState) → AllByRecursion (λ (s : ObjectState). HasObject hd (let u = s.uid in u.num)) ss →
+pub each_has : (hd : Header) (ss : List ObjectState) → AllByRecursion (λ (s : ObjectState). HasObject hd (let u = s.uid in u.num)) ss →
     (s : ObjectState) → In s ss → HasObject hd (let u = s.uid in u.num)
 each_has hd [] all s i = absurd i
 each_has hd (t ∷ ts) all s (inl same) = subst (λ (z : ObjectState). HasObject hd (let u = z.uid in u.num)) same all.0

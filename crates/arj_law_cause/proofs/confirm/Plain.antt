@@ -1,4 +1,4 @@
--- Which lines a coordinator says that naming has refused a commit: one, first of all, as it takes naming's answer.
+-- Which lines a coordinator says that naming or a store has refused a commit: one, first of all, as it takes the answer.
 use Rattle.arj_law_parts.proofs.Words
 use Words.{⊤, ◌≡◌, ◌∙◌, ◌++◌, not, ℕ, Bool, true, false, cond, List, [], ◌∷◌, map, Option, Some, None, refl, sym, ap}
 use Words.{flat_map, Asked, Body, End, Kind, Label, Path, Uid, ConfirmedReply, Reply, actor, Intent, Used}
@@ -29,8 +29,9 @@ use Rattle.arj_law_parts.specs.moves.Keeps.{is_act}
 use Rattle.arj_law_runs.proofs.Terms.{all_flat, all_map}
 use Rattle.arj_law_cause.proofs.waits.commits.Serving.{AreStill, IsQuiet, asks_still, is_of_part, quiet_plain, still_both, tells_still}
 
--- naming has refused a commit
+-- naming has refused a commit, or a store has since the state is too late
 abbrev pub is_refusal : Body → Bool
+is_refusal (body.Aborted l (cause.Old n x v)) = true
 is_refusal (body.Aborted l (cause.Conflict u m n)) = true
 is_refusal (body.Aborted l (cause.NoStores x)) = true
 is_refusal (body.Aborted l (cause.Listed x s)) = true
@@ -174,14 +175,17 @@ why_of (confirmed.NoStores x) = Some (λ l. body.Aborted l (cause.NoStores x))
 why_of (confirmed.Listed x s) = Some (λ l. body.Aborted l (cause.Listed x s))
 why_of q = None
 
--- Of an answer that a commit waits for the step is plain, or it is naming's refusal, with this line.
-pub data Hears (u : Uid) (m : Machine) (r : Reply) (intents : List (Uid × Intent)) (c : Coord) (outs : List Effect) : Type 0 where
-  Goes : Plain outs → Hears u m r intents c outs
+-- Of an answer that a commit waits for the step is plain, or it is a refusal, with this line.
+pub data Hears (from : ℕ) (u : Uid) (m : Machine) (r : Reply) (intents : List (Uid × Intent)) (c : Coord) (outs : List Effect) :
+    Type 0 where
+  Goes : Plain outs → Hears from u m r intents c outs
   Refused : (p : Plan) (q : ConfirmedReply) (f : Label → Body) (rest : List Effect) → m ≡ Confirming p → r ≡ Reply.Confirmed q →
-      why_of q ≡ Some f → outs ≡ says u f c ++ rest → Plain rest → Hears u m r intents c outs
+      why_of q ≡ Some f → outs ≡ says u f c ++ rest → Plain rest → Hears from u m r intents c outs
+  Late : (p : Plan) (left : List ℕ) (x v : ℕ) (rest : List Effect) → m ≡ Preparing p left → r ≡ Reply.Prepared (prepared.Old x v) →
+      outs ≡ says u (λ l. body.Aborted l (cause.Old from x v)) c ++ rest → Plain rest → Hears from u m r intents c outs
 
 hears : (u : Uid) (m : Machine) (from : ℕ) (r : Reply) (intents : List (Uid × Intent)) (c : Coord) →
-    Hears u m r intents c (moved_commit u (commit.answered from m r) intents c).outs
+    Hears from u m r intents c (moved_commit u (commit.answered from m r) intents c).outs
 hears u (Voting p left) from (Reply.Voted (voted.Yes states)) intents c =
     Goes (moved_plain u (commit.answered from (Voting p left) (Reply.Voted (voted.Yes states))) intents c (votes_step
     (without_number from left)
@@ -196,7 +200,7 @@ hears u (Preparing p left) from (Reply.Prepared (prepared.InDoubt x holder)) int
     Goes (moved_plain u (commit.answered from (Preparing p left) (Reply.Prepared (prepared.InDoubt x holder))) intents c
     (stores_step (without_number from left) (commit.marks_store from p)))
 hears u (Preparing p left) from (Reply.Prepared (prepared.Old x v)) intents c =
-    Goes (moved_plain u (commit.answered from (Preparing p left) (Reply.Prepared (prepared.Old x v))) intents c (λ l. refl))
+    Late p left x v (tolds_of intents (ended u ending.Abort c) u) refl refl refl (tolds_plain intents (ended u ending.Abort c) u)
 hears u (Confirming p) from (Reply.Confirmed confirmed.Yes) intents c =
     Goes (moved_plain u (commit.answered from (Confirming p) (Reply.Confirmed confirmed.Yes)) intents c tt)
 hears u (Confirming p) from (Reply.Confirmed (confirmed.Changed w)) intents c =
@@ -217,12 +221,15 @@ hears u m from r intents c = Goes tt
 
 -- ---- a coordinator
 
--- As an answer is heard the effects are plain, or naming refused the commit of the action that waits for it.
+-- As an answer is heard the effects are plain, or it refused the commit of the action that waits for it.
 pub data Heard (from : ℕ) (a : Asked) (r : Reply) (c : Coord) (outs : List Effect) : Type 0 where
   Rests : Plain outs → Heard from a r c outs
   Ends : (d : Doing) (p : Plan) (q : ConfirmedReply) (f : Label → Body) (rest : List Effect) → doing_of a.act c ≡ Some d →
       d.now ≡ Committing (Confirming p) → waits_for_commit from a r (Confirming p) ≡ true → r ≡ Reply.Confirmed q → why_of q ≡ Some f →
       outs ≡ Say (f d.label) ∷ rest → Plain rest → Heard from a r c outs
+  EndsLate : (d : Doing) (p : Plan) (left : List ℕ) (x v : ℕ) (rest : List Effect) → doing_of a.act c ≡ Some d →
+      d.now ≡ Committing (Preparing p left) → waits_for_commit from a r (Preparing p left) ≡ true → r ≡ Reply.Prepared (prepared.Old x v) →
+      outs ≡ Say (body.Aborted d.label (cause.Old from x v)) ∷ rest → Plain rest → Heard from a r c outs
 
 pub heard_is : (from : ℕ) (a : Asked) (r : Reply) (intents : List (Uid × Intent)) (c : Coord) →
     Heard from a r c (heard from a r intents c).outs
@@ -237,11 +244,14 @@ heard_is from a r intents c = by (doing_of a.act c) refl
         one false = Rests tt
     now d found (Committing m) is = one (waits_for_commit from a r m) refl
       where
-        ends : waits_for_commit from a r m ≡ true → (outs : List Effect) → Hears a.act m r intents c outs → Heard from a r c outs
+        ends : waits_for_commit from a r m ≡ true → (outs : List Effect) → Hears from a.act m r intents c outs → Heard from a r c outs
         ends waits outs (Goes ok) = Rests ok
         ends waits outs (Refused p q f rest machine reply why are ok) = Ends d p q f rest found (is ∙ ap Committing machine)
             (ap (waits_for_commit from a r) (sym machine) ∙ waits) reply why
             (are ∙ ap (λ es. es ++ rest) (ap (say_for f) found)) ok
+        ends waits outs (Late p left x v rest machine reply are ok) = EndsLate d p left x v rest found (is ∙ ap Committing machine)
+            (ap (waits_for_commit from a r) (sym machine) ∙ waits) reply
+            (are ∙ ap (λ es. es ++ rest) (ap (say_for (λ l. body.Aborted l (cause.Old from x v))) found)) ok
 
         one : (w : Bool) → waits_for_commit from a r m ≡ w → Heard from a r c (cond {A = Served Coord (Unit {0})} w
             (heard_by (moved_commit a.act (commit.answered from m r) intents c)) (heard_none c)).outs

@@ -3,7 +3,7 @@ use Rattle.arj_law_parts.proofs.Words
 use Words.{⊤, ◌≡◌, ◌≤◌, ◌∙◌, ◌==◌, ◌&&◌, not, ℕ, Bool, true, false, if◌then◌else◌, List, [], ◌∷◌, length, map, Some}
 use Words.{refl, sym, ap, subst, inl, inr, ⊎_elim, is_some, list_all, and_parts, eqb-true, AllByRecursion, In, Asked}
 use Words.{ConfirmedReply, Mode, cond, entry, in_from, take, top_path, tops_of, uids_of}
-use Words.{Header, Line, Message, Reply, Uid, actor, answers, is_listed, name, marked, Confirming}
+use Words.{Header, Line, Message, Reply, Start, Uid, actor, answers, is_listed, name, marked, Confirming}
 use Words.{Plan, Used, confirm_ask, included_of, is_marked, waits_for_commit, Committing, Doing, doing_of, Disk, Parts, Node, Seen}
 use Words.{is_own, filter, last_uid, list_any, is_on, top_of, Option, None, Kind, End, ◌||◌}
 use Words.{is_committing_now, is_waiting_now, has, Body, ask_kind, reply_kind, Label}
@@ -57,6 +57,7 @@ use Rattle.arj_law_serial.proofs.Terms.{AreAlike, AreDistinct, act_of, path, pat
 use Rattle.arj_law_serial.proofs.holding.{Running.Showing, Running.alike_of}
 use Rattle.arj_law_serial.proofs.tables.Holders.{path_fits}
 use Rattle.arj_model.specs.Actions.{tops_in}
+use Rattle.arj_law_cause.specs.kinds.Tests.{is_old_so}
 use Rattle.arj_model.specs.CauseAnswers.{meets}
 use Rattle.arj_model.specs.CauseCommits.{confirm_meets}
 use Rattle.arj_model.specs.CauseSpans.{top_uids}
@@ -116,20 +117,23 @@ undecided_so B u k None none is = (λ i. front (is_on B.committed u) (is_on B.ab
 
 -- ---- what a line says
 
--- where naming refused a commit the line has its cause, by these lines before it, as long as they are early
-abbrev pub Fits : Header → List Line → Body → Type 0
-Fits hd lines (body.Aborted l (cause.Listed y s)) =
+-- Where a commit was refused the line has its cause, or that part of it that is shown of stores, by these lines before it, as long as they
+-- are early, in a run with this start.
+abbrev pub Fits : Header → Start → List Line → Body → Type 0
+Fits hd st lines (body.Aborted l (cause.Listed y s)) =
     IsEarly lines → (h : Here) → h.header ≡ hd → h.lines ≡ lines → is_listed_before h (name l) y s ≡ true
-Fits hd lines (body.Aborted l (cause.NoStores y)) =
+Fits hd st lines (body.Aborted l (cause.NoStores y)) =
     IsEarly lines → (h : Here) → h.header ≡ hd → h.lines ≡ lines → leaves_none h (name l) y ≡ true
-Fits hd lines (body.Aborted l (cause.Conflict u m n)) =
+Fits hd st lines (body.Aborted l (cause.Conflict u m n)) =
     IsEarly lines → (h : Here) → h.header ≡ hd → h.lines ≡ lines → confirm_meets h (name l) u m n ≡ true
-Fits hd lines b = ⊤
+Fits hd st lines (body.Aborted l (cause.Old n y v)) = IsEarly lines → (h : Here) → h.header ≡ hd → h.start ≡ st → h.lines ≡ lines →
+    is_old_so h (body.Aborted l (cause.Old n y v)) ≡ true
+Fits hd st lines b = ⊤
 
 -- ---- at the coordinator
 
-module _ (hd : Header) (form : HeaderInForm hd) (before : List Line) (event : ℕ) (k : ℕ) (d : Disk) (t : Parts) (M : Moment)
-    (tabled : Shows hd before event (up k d t M)) (made : AnswersAreMade (confirms_so hd) (up k d t M)) (from : ℕ) (m : Message)
+module _ (hd : Header) (st : Start) (form : HeaderInForm hd) (before : List Line) (event : ℕ) (k : ℕ) (d : Disk) (t : Parts) (M : Moment)
+    (tabled : Shows hd before event (up k d t M)) (made : AnswersAreMade (confirms_so hd st) (up k d t M)) (from : ℕ) (m : Message)
     (sent_it : seen.In (record { from = from; to = k; message = m }) M.seen.sent) (a : Asked) (q : ConfirmedReply)
     (answer : answers m ≡ Some (a, Reply.Confirmed q)) (w : Doing) (p : Plan) (found : doing_of a.act t.coord ≡ Some w)
     (now : w.now ≡ Committing (Confirming p)) (waits : waits_for_commit from a (Reply.Confirmed q) (Confirming p) ≡ true) where
@@ -165,7 +169,7 @@ module _ (hd : Header) (form : HeaderInForm hd) (before : List Line) (event : �
 
   -- ---- the answer
 
-  ans : AnswersTo (confirms_so hd) ⊥ (up k d t M) from k a (Reply.Confirmed q)
+  ans : AnswersTo (confirms_so hd st) ⊥ (up k d t M) from k a (Reply.Confirmed q)
   ans = made.sent (record { from = from; to = k; message = m }) a (Reply.Confirmed q) sent_it answer
 
   asker : actor (let h = ans.0 in h.path) ≡ a.act
@@ -197,8 +201,8 @@ module _ (hd : Header) (form : HeaderInForm hd) (before : List Line) (event : �
   its_ask = let z = asked_for in (z.commit (Confirming p) (ap (λ (x : Doing). x.now) doing_is ∙ now)
       (ap (λ (b : Asked). b.req) ans.2 ∙ sym (eqb-true p.req a.req its_parts.0) ∙ numbered ∙ ap (λ (x : Doing). x.req) (sym doing_is))).1
 
-  so : says_of hd ans.0 (confirm_ask p) (Reply.Confirmed q) (let z = ans.3 in z.made.before)
-  so = let z = ans.3 in subst (λ b. says_of hd ans.0 b (Reply.Confirmed q) z.made.before) its_ask z.made.so
+  so : says_of hd st ans.0 (confirm_ask p) (Reply.Confirmed q) (let z = ans.3 in z.made.before)
+  so = let z = ans.3 in subst (λ b. says_of hd st ans.0 b (Reply.Confirmed q) z.made.before) its_ask z.made.so
 
   fits : AskFits hd (confirm_ask p)
   fits = let z = ans.3 in
@@ -383,18 +387,18 @@ module _ (hd : Header) (form : HeaderInForm hd) (before : List Line) (event : �
             (leaves_so met.0 met.1 ∙ sym (marked_is met.0 met.1 p.excluded) ∙ met.2))
 
   -- the line that the refusal says fits
-  pub fits_line : (f : Label → Body) → why_of q ≡ Some f → Fits hd M.seen.lines (f w.label)
+  pub fits_line : (f : Label → Body) → why_of q ≡ Some f → Fits hd st M.seen.lines (f w.label)
   fits_line f why = by q so.1 why
     where
       by : (z : ConfirmedReply) → refuses hd ans.0 p.excluded (included_of p) z (let y = ans.3 in y.made.before) → why_of z ≡ Some f →
-          Fits hd M.seen.lines (f w.label)
-      by (confirmed.Listed y s) says is = subst (λ (g : Label → Body). Fits hd M.seen.lines (g w.label)) (some_is is)
+          Fits hd st M.seen.lines (f w.label)
+      by (confirmed.Listed y s) says is = subst (λ (g : Label → Body). Fits hd st M.seen.lines (g w.label)) (some_is is)
           (λ early h header at. subst (λ g. is_listed_before g (name w.label) y s ≡ true)
           (λ i. record h { header = sym header i; lines = sym at i }) (listed_row h y s says early))
-      by (confirmed.NoStores y) says is = subst (λ (g : Label → Body). Fits hd M.seen.lines (g w.label)) (some_is is)
+      by (confirmed.NoStores y) says is = subst (λ (g : Label → Body). Fits hd st M.seen.lines (g w.label)) (some_is is)
           (λ early h header at. subst (λ g. leaves_none g (name w.label) y ≡ true)
           (λ i. record h { header = sym header i; lines = sym at i }) (bare_row h y says early))
-      by (confirmed.Conflict u n) says is = subst (λ (g : Label → Body). Fits hd M.seen.lines (g w.label)) (some_is is)
+      by (confirmed.Conflict u n) says is = subst (λ (g : Label → Body). Fits hd st M.seen.lines (g w.label)) (some_is is)
           (λ early h header at. subst (λ g. confirm_meets g (name w.label) u n 1 ≡ true)
           (λ i. record h { header = sym header i; lines = sym at i }) (conflict_row h u n says early))
       by confirmed.Yes says is = absurd (cc is)

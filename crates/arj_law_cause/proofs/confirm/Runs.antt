@@ -33,7 +33,7 @@ use Rattle.arj_model.specs.Past.{Along, Past, block, next}
 use Rattle.arj_promise.specs.Runs.{IsInForm, Run, journal_by}
 use Rattle.arj_law_cause.specs.rows.Early.{IsEarly}
 use Rattle.arj_law_cause.proofs.confirm.{Joined.early_before, Labels.runs_have_few, Plain.Ends, Plain.Heard, Plain.Plain}
-use Rattle.arj_law_cause.proofs.confirm.{Plain.Rests}
+use Rattle.arj_law_cause.proofs.confirm.{Entries.BeganSo, Entries.began_so, Outdated.old_row, Plain.EndsLate, Plain.Rests}
 use Rattle.arj_law_cause.proofs.confirm.{Plain.acts_plain}
 use Rattle.arj_law_cause.proofs.confirm.{Plain.heard_is, Plain.parts_plain, Plain.plain, Reached.Reached}
 use Rattle.arj_law_cause.proofs.confirm.{Reached.reached_kept}
@@ -41,8 +41,9 @@ use Rattle.arj_law_cause.proofs.confirm.{Refused.Fits, Refused.fits_line, Says.c
 use Rattle.arj_law_cause.proofs.kinds.Lines.{more_lines}
 use Rattle.arj_law_cause.proofs.waits.commits.Serving as Serving
 use Rattle.arj_law_cause.proofs.waits.commits.Serving.{AreStill, IsQuiet, goes_so, naming_quiet, quiet_plain, restart_still, tick_still}
-use Rattle.arj_law_cause.specs.kinds.Kinds.{is_bare_abort, is_listed_abort, is_met_abort}
-use Rattle.arj_law_cause.specs.kinds.Rows.{RowHolds, RowStep, row}
+use Rattle.arj_law_cause.specs.kinds.Kinds.{is_bare_abort, is_listed_abort, is_met_abort, is_old_abort}
+use Rattle.arj_law_cause.specs.kinds.Tests.{is_old_so}
+use Rattle.arj_law_cause.specs.kinds.Rows.{RowHolds, TestHolds, TestedStep, tested}
 use Rattle.arj_law_parts.proofs.Terms.which
 use Rattle.arj_law_parts.specs.moves.Moments.{no_history}
 use Rattle.arj_law_serial.proofs.Terms.{up_of}
@@ -50,25 +51,25 @@ use Rattle.arj_law_cause.proofs.confirm.{Says.Shows}
 use Rattle.arj_law_cause.proofs.rows.Running.{Beside, InEvent, event_step, first_so, moves_stand, steps_both, tables_step}
 use Rattle.arj_law_cause.specs.rows.Tables.{Tables}
 
-module _ (hd : Header) where
+module _ (hd : Header) (st : Start) where
   -- ---- lines
 
   -- each of these lines fits those before it
   abbrev pub AreFit : List Line → List Line → Type 0
   AreFit before [] = ⊤
-  AreFit before (l ∷ ls) = Fits hd before l.body × AreFit (before ++ l ∷ []) ls
+  AreFit before (l ∷ ls) = Fits hd st before l.body × AreFit (before ++ l ∷ []) ls
 
   fit_both : (before xs ys : List Line) → AreFit before xs → AreFit (before ++ xs) ys → AreFit before (xs ++ ys)
   fit_both before [] ys a b = subst (λ ls. AreFit ls ys) (append-nil before) b
   fit_both before (x ∷ xs) ys a b =
       (a.0, fit_both (before ++ x ∷ []) xs ys a.1 (subst (λ ls. AreFit ls ys) (sym (append_assoc before (x ∷ []) xs)) b))
 
-  fit_at : (before xs : List Line) (line : Line) (ys : List Line) → AreFit before (xs ++ line ∷ ys) → Fits hd (before ++ xs) line.body
-  fit_at before [] line ys a = subst (λ ls. Fits hd ls line.body) (sym (append-nil before)) a.0
+  fit_at : (before xs : List Line) (line : Line) (ys : List Line) → AreFit before (xs ++ line ∷ ys) → Fits hd st (before ++ xs) line.body
+  fit_at before [] line ys a = subst (λ ls. Fits hd st ls line.body) (sym (append-nil before)) a.0
   fit_at before (x ∷ xs) line ys a =
-      subst (λ ls. Fits hd ls line.body) (append_assoc before (x ∷ []) xs) (fit_at (before ++ x ∷ []) xs line ys a.1)
+      subst (λ ls. Fits hd st ls line.body) (append_assoc before (x ∷ []) xs) (fit_at (before ++ x ∷ []) xs line ys a.1)
 
-  plain_fits : (lines : List Line) (b : Body) → plain b ≡ true → Fits hd lines b
+  plain_fits : (lines : List Line) (b : Body) → plain b ≡ true → Fits hd st lines b
   plain_fits lines (body.Aborted l (cause.Listed x s)) is = absurd (cc is)
   plain_fits lines (body.Aborted l (cause.NoStores x)) is = absurd (cc is)
   plain_fits lines (body.Aborted l cause.Asked) is = tt
@@ -76,7 +77,7 @@ module _ (hd : Header) where
   plain_fits lines (body.Aborted l (cause.Lost n)) is = tt
   plain_fits lines (body.Aborted l (cause.Conflict u m n)) is = absurd (cc is)
   plain_fits lines (body.Aborted l (cause.Changed n d)) is = tt
-  plain_fits lines (body.Aborted l (cause.Old n x v)) is = tt
+  plain_fits lines (body.Aborted l (cause.Old n x v)) is = absurd (cc is)
   plain_fits lines b is = tt
 
   all_fit : (lines : List Line) (e : ℕ) (bs : List Body) → list_all plain bs ≡ true → AreFit lines (numbered e bs)
@@ -90,7 +91,7 @@ module _ (hd : Header) where
   abbrev pub LinesFit : Moment → Type 0
   LinesFit M = AreFit [] M.seen.lines
 
-  one_more : (b : Body) (M : Moment) → Fits hd M.seen.lines b → LinesFit M → LinesFit (said (b ∷ []) M)
+  one_more : (b : Body) (M : Moment) → Fits hd st M.seen.lines b → LinesFit M → LinesFit (said (b ∷ []) M)
   one_more b M fit h = fit_both [] M.seen.lines (numbered M.past.number (b ∷ [])) h (fit, tt)
 
   mute : (bs : List Body) (M : Moment) → list_all plain bs ≡ true → LinesFit M → LinesFit (said bs M)
@@ -116,7 +117,7 @@ module _ (hd : Header) where
 
   -- the effects say no refusal, or first of all one that fits
   abbrev Turn : List Line → List Effect → Type 0
-  Turn lines outs = Plain outs ⊎ ((b : Body) × (rest : List Effect) × (outs ≡ Say b ∷ rest) × Fits hd lines b × Plain rest)
+  Turn lines outs = Plain outs ⊎ ((b : Body) × (rest : List Effect) × (outs ≡ Say b ∷ rest) × Fits hd st lines b × Plain rest)
 
   turn_walk : (k : ℕ) (v : Parts) (outs : List Effect) (d : Disk) (M : Moment) → Turn M.seen.lines outs → LinesFit M →
       WalksWith LinesFit k outs (UpWith LinesFit k v) d M
@@ -128,11 +129,15 @@ module _ (hd : Header) where
 
   -- what is seen was reached, and naming's answers say what is so
   abbrev pub Given : Moment → Type 0
-  Given M = Wide (Reached hd) M × AnswersAreMade (confirms_so hd) M
+  Given M = Wide (Reached hd) M × (Wide (BeganSo st) M × AnswersAreMade (confirms_so hd st) M)
 
-  -- in an event tables show locks, answers say what is so, and each line so far fits
+  -- in an event tables show locks, by moments that were reached, in a run with this start
+  abbrev Knows : List Line → ℕ → Moment → Type 0
+  Knows before event M = Shows hd before event M × Wide (BeganSo st) M
+
+  -- and answers say what is so, and each line so far fits
   abbrev Inner : List Line → ℕ → Moment → Type 0
-  Inner before event M = (InEvent hd before event M × (Shows hd before event M × AnswersAreMade (confirms_so hd) M)) × LinesFit M
+  Inner before event M = (InEvent hd before event M × (Knows before event M × AnswersAreMade (confirms_so hd st) M)) × LinesFit M
 
   -- between events
   abbrev Between : Moment → Type 0
@@ -140,6 +145,9 @@ module _ (hd : Header) where
 
   reached_wide : KeepsWith hd (IsAtStarts hd (Reached hd)) (Wide (Reached hd))
   reached_wide = wide_kept hd (IsAtStarts hd (Reached hd)) (Reached hd) (reached_kept hd)
+
+  began_wide : KeepsWith hd ⊤ (Wide (BeganSo st))
+  began_wide = wide_kept hd ⊤ (BeganSo st) (began_so hd st)
 
   plain_line : (b : Body) → is_plain_line b ≡ true → plain b ≡ true
   plain_line (body.Aborted l c) is = absurd (cc is)
@@ -152,7 +160,7 @@ module _ (hd : Header) where
 
   module _ (form : HeaderInForm hd) where
     heard_turn : (before : List Line) (event k : ℕ) (d : Disk) (t : Parts) (from : ℕ) (m : Message) (M : Moment) →
-        Shows hd before event (up k d t M) → AnswersAreMade (confirms_so hd) (up k d t M) →
+        Knows before event (up k d t M) → AnswersAreMade (confirms_so hd st) (up k d t M) →
         In (record { from = from; to = k; message = m }) M.seen.sent → (a : Asked) (r : Reply) → answers m ≡ Some (a, r) →
         Turn M.seen.lines (heard from a r d.intents t.coord).outs
     heard_turn before event k d t from m M h made there a r is =
@@ -164,13 +172,23 @@ module _ (hd : Header) where
           f w.label,
           rest,
           are,
-          fits_line hd form before event k d t M h made from m there a q (is ∙ ap (λ z. Some (a, z)) reply) w p found now
+          fits_line hd st form before event k d t M h.0 made from m there a q (is ∙ ap (λ z. Some (a, z)) reply) w p found now
               (subst (λ z. Words.waits_for_commit from a z (Words.Confirming p) ≡ true) reply waits) f why,
+          all,
+        )
+        by outs (EndsLate w p left y v rest found now waits reply are all) = inr (
+          body.Aborted w.label (cause.Old from y v),
+          rest,
+          are,
+          (λ early g header starts at. subst (λ z. is_old_so z (body.Aborted w.label (cause.Old from y v)) ≡ true)
+              (λ i. record g { header = sym header i; lines = sym at i })
+              (old_row hd st form before event k d t M (h.0, h.1.2) made from m there a y v (is ∙ ap (λ z. Some (a, z)) reply) w p left found now
+              (subst (λ z. Words.waits_for_commit from a z (Words.Preparing p left) ≡ true) reply waits) early g starts)),
           all,
         )
 
     message_turn : (before : List Line) (event k : ℕ) (d : Disk) (t v : Parts) (from : ℕ) (m : Message) (outs : List Effect) (M : Moment) →
-        Shows hd before event (up k d t M) → AnswersAreMade (confirms_so hd) (up k d t M) →
+        Knows before event (up k d t M) → AnswersAreMade (confirms_so hd st) (up k d t M) →
         In (record { from = from; to = k; message = m }) M.seen.sent → handle k d t from m ≡ Took v outs → Turn M.seen.lines outs
     message_turn before event k d t v from m outs M h made there is =
         subst (Serving.GoesSo (IsQuiet plain) (quiet_plain plain parts_plain) (Turn M.seen.lines)
@@ -181,16 +199,19 @@ module _ (hd : Header) where
 
     module _ (before : List Line) (event : ℕ) (early : (j : ℕ) → (event == up_of j before) ≡ false) where
       abbrev Known_now : Moment → Type 0
-      Known_now M = InEvent hd before event M × (Shows hd before event M × AnswersAreMade (confirms_so hd) M)
+      Known_now M = InEvent hd before event M × (Knows before event M × AnswersAreMade (confirms_so hd st) M)
 
-      shows_steps : KeepsSteps hd (Shows hd before event)
-      shows_steps = steps_both hd (Tables hd before event) (Wide (Reached hd)) (tables_step hd before event early)
-          (let k = reached_wide in k.steps)
+      shows_steps : KeepsSteps hd (Knows before event)
+      shows_steps = steps_both hd (Shows hd before event) (Wide (BeganSo st))
+          (steps_both hd (Tables hd before event) (Wide (Reached hd)) (tables_step hd before event early)
+          (let k = reached_wide in k.steps)) (let k = began_wide in k.steps)
 
       known_steps : KeepsSteps hd Known_now
-      known_steps = steps_both hd (InEvent hd before event) (λ M. Shows hd before event M × AnswersAreMade (confirms_so hd) M)
+      known_steps = steps_both hd (InEvent hd before event) (λ M. Knows before event M × AnswersAreMade (confirms_so hd st) M)
           (event_step hd before event early)
-          (answers_step hd (confirms_so hd) (Shows hd before event) shows_steps (λ M h. h.0.0.0) (tells hd form before event early))
+          (answers_step hd (confirms_so hd st) (Knows before event) shows_steps (λ M h. h.0.0.0.0)
+          (λ k d t v from m h a r front M g there other meant asking new is.
+          tells hd st form before event early k d t v from m h a r front M (g.0, g.1.2) there other meant asking new is))
 
       inner_steps : KeepsSteps hd (Inner before event)
       inner_steps = let g = known_steps in record {
@@ -224,25 +245,32 @@ module _ (hd : Header) where
       }
 
     its_beside : Beside hd Between Inner
-    its_beside = let k = reached_wide in record {
+    its_beside = let k = reached_wide in let b = began_wide in record {
       inner = λ before event early. inner_steps before event early;
       knows = λ before event M h. h.0.0;
-      opens = λ e M first number h. ((k.opens e M first number h.0.0, made_opens (confirms_so hd) e M first number h.0.1), h.1);
-      enters = λ before event M number first lines i h. ((i, ((i.0.0, h.0.0), h.0.1)), h.1);
+      opens = λ e M first number h. (
+        (k.opens e M first number h.0.0, (b.opens e M first number h.0.1.0, made_opens (confirms_so hd st) e M first number h.0.1.1)),
+        h.1,
+      );
+      enters = λ before event M number first lines i h. ((i, (((i.0.0, h.0.0), h.0.1.0), h.0.1.1)), h.1);
       leaves = λ before event bodies M number lines h. (
-        (k.closes bodies M number lines h.0.1.0.1, made_closes (confirms_so hd) bodies M number lines h.0.1.1),
+        (
+          k.closes bodies M number lines h.0.1.0.0.1,
+          (b.closes bodies M number lines h.0.1.0.1, made_closes (confirms_so hd st) bodies M number lines h.0.1.1),
+        ),
         h.1,
       );
       labels = λ M h. (
         (
           (let s = k.steps in s.quiet (body.Limit which.Labels ∷ []) M refl h.0.0),
-          made_later (confirms_so hd) M (said (body.Limit which.Labels ∷ []) M) (record {
+          ((let s = b.steps in s.quiet (body.Limit which.Labels ∷ []) M refl h.0.1.0),
+          made_later (confirms_so hd st) M (said (body.Limit which.Labels ∷ []) M) (record {
             more = numbered M.past.number (body.Limit which.Labels ∷ []);
             lines = refl;
             askings = refl;
             sent = λ p i. i;
             full = λ f. f;
-          }) (λ j. refl) (λ p i. i) h.0.1,
+          }) (λ j. refl) (λ p i. i) h.0.1.1),
         ),
         mute (body.Limit which.Labels ∷ []) M refl h.1,
       );
@@ -250,12 +278,12 @@ module _ (hd : Header) where
 
     -- ---- runs
 
-    pub lines_fit : (r : Run hd) → AreFit [] (journal_by hd r)
-    lines_fit r =
+    pub lines_fit : (r : Run hd) → r.start ≡ st → AreFit [] (journal_by hd r)
+    lines_fit r starts =
         let k = reached_wide in
         let z = moves_stand hd Between Inner its_beside r.moves (no_history r.start) (world_from hd r.start)
-        (first_so hd Between Inner its_beside r.start r.formed
-        ((([], (λ p i. i), k.first r.start r.formed), first_made hd (confirms_so hd) r.start r.formed), tt)) in
+        (first_so hd Between Inner its_beside r.start r.formed ((([], (λ p i. i), k.first r.start r.formed),
+        (([], (λ p i. i), starts), first_made hd (confirms_so hd st) r.start r.formed)), tt)) in
         let h = z.holds in h.now.holds.1.1
 
 -- a run's lines are early
@@ -269,67 +297,80 @@ runs_early hd r form = record {
 -- ---- rows
 
 -- so it is known of a line
-abbrev IsSo : Header → List Line → Body → Type 0
-IsSo hd before b = Fits hd before b × IsEarly before
+abbrev IsSo : Header → Start → List Line → Body → Type 0
+IsSo hd st before b = Fits hd st before b × IsEarly before
 
-module _ (hd : Header) (of : Here → Body → Bool) (to : (h : Here) (b : Body) → h.header ≡ hd → of h b ≡ true → IsSo hd h.lines b →
-    has_cause h b ≡ true)
+module _ (hd : Header) (st : Start) (test of : Here → Body → Bool) (to : (h : Here) (b : Body) → h.header ≡ hd → h.start ≡ st → of h b ≡ true →
+    IsSo hd st h.lines b → test h b ≡ true)
     (lines : List Line) (each : (before : List Line) (line : Line) (behind : List Line) → lines ≡ before ++ line ∷ behind →
-    IsSo hd before line.body) where
-  lines_so : (h : Here) (bs : List Body) (more : List Line) → h.header ≡ hd → lines ≡ h.lines ++ (numbered h.number bs ++ more) →
-      are_so (row of) h bs ≡ true
-  lines_so h [] more header is = refl
-  lines_so h (b ∷ bs) more header is =
-      λ i. one (of h b) refl i && lines_so (behind h b) bs more header
+    IsSo hd st before line.body) where
+  lines_so : (h : Here) (bs : List Body) (more : List Line) → h.header ≡ hd → h.start ≡ st →
+      lines ≡ h.lines ++ (numbered h.number bs ++ more) → are_so (tested test of) h bs ≡ true
+  lines_so h [] more header starts is = refl
+  lines_so h (b ∷ bs) more header starts is =
+      λ i. one (of h b) refl i && lines_so (behind h b) bs more header starts
       (is ∙ sym (append_assoc h.lines (record { event = h.number; body = b } ∷ []) (numbered h.number bs ++ more))) i
     where
-      one : (x : Bool) → of h b ≡ x → (not x || has_cause h b) ≡ true
+      one : (x : Bool) → of h b ≡ x → (not x || test h b) ≡ true
       one false other = refl
-      one true its = to h b header its (each h.lines (record { event = h.number; body = b }) (numbered h.number bs ++ more) is)
+      one true its = to h b header starts its
+          (each h.lines (record { event = h.number; body = b }) (numbered h.number bs ++ more) is)
 
-  along_so : (P : Past → Event → List Body → Type 0) (es : List Event) (p end : Past) (ending : List Line) →
-      lines ≡ end.lines ++ ending → Along P p es end → Along (RowStep of hd) p es end
-  along_so P [] p end ending is a = a
-  along_so P (e ∷ es) p end ending is a =
+  along_so : (P : Past → Event → List Body → Type 0) (es : List Event) (p end : Past) (ending : List Line) → p.start ≡ st →
+      lines ≡ end.lines ++ ending → Along P p es end → Along (TestedStep test of hd) p es end
+  along_so P [] p end ending starts is a = a
+  along_so P (e ∷ es) p end ending starts is a =
       let r = more_lines P es (next p e a.0) end a.2 in (
         a.0,
-        lines_so (here_at hd p e a.0) a.0 (r.0 ++ ending) refl
+        lines_so (here_at hd p e a.0) a.0 (r.0 ++ ending) refl starts
             (is ∙ ap (λ ls. ls ++ ending) r.1 ∙ append_assoc (p.lines ++ block (p.count + 1) a.0) r.0 ending
             ∙ append_assoc p.lines (block (p.count + 1) a.0) (r.0 ++ ending)),
-        along_so P es (next p e a.0) end ending is a.2,
+        along_so P es (next p e a.0) end ending starts is a.2,
       )
 
-  rows_so : (P : Past → Event → List Body → Type 0) (st : Start) (es : List Event) → Runs P st es lines →
-      Runs (RowStep of hd) st es lines
-  rows_so P st es r = (r.0, r.1, along_so P es _ r.0 r.1 r.3 r.2, r.3, r.4)
+  rows_so : (P : Past → Event → List Body → Type 0) (es : List Event) → Runs P st es lines → Runs (TestedStep test of hd) st es lines
+  rows_so P es r = (r.0, r.1, along_so P es _ r.0 r.1 refl r.3 r.2, r.3, r.4)
 
 each_line : (hd : Header) (r : Run hd) → IsInForm hd r → (before : List Line) (line : Line) (behind : List Line) →
-    journal_by hd r ≡ before ++ line ∷ behind → IsSo hd before line.body
+    journal_by hd r ≡ before ++ line ∷ behind → IsSo hd r.start before line.body
 each_line hd r form before line behind is = (
-  fit_at hd [] before line behind (subst (AreFit hd []) is (lines_fit hd form.header r)),
+  fit_at hd r.start [] before line behind (subst (AreFit hd r.start []) is (lines_fit hd r.start form.header r refl)),
   early_before before (line ∷ behind) (subst IsEarly is (runs_early hd r form)),
 )
 
-listed_cause : (hd : Header) (h : Here) (b : Body) → h.header ≡ hd → is_listed_abort b ≡ true → IsSo hd h.lines b → has_cause h b ≡ true
-listed_cause hd h (body.Aborted l (cause.Listed x s)) header its so = so.0 so.1 h header refl
-listed_cause hd h b header its so = absurd (cc its)
+listed_cause : (hd : Header) (st : Start) (h : Here) (b : Body) → h.header ≡ hd → h.start ≡ st → is_listed_abort b ≡ true →
+    IsSo hd st h.lines b → has_cause h b ≡ true
+listed_cause hd st h (body.Aborted l (cause.Listed x s)) header starts its so = so.0 so.1 h header refl
+listed_cause hd st h b header starts its so = absurd (cc its)
 
-bare_cause : (hd : Header) (h : Here) (b : Body) → h.header ≡ hd → is_bare_abort b ≡ true → IsSo hd h.lines b → has_cause h b ≡ true
-bare_cause hd h (body.Aborted l (cause.NoStores x)) header its so = so.0 so.1 h header refl
-bare_cause hd h b header its so = absurd (cc its)
+bare_cause : (hd : Header) (st : Start) (h : Here) (b : Body) → h.header ≡ hd → h.start ≡ st → is_bare_abort b ≡ true →
+    IsSo hd st h.lines b → has_cause h b ≡ true
+bare_cause hd st h (body.Aborted l (cause.NoStores x)) header starts its so = so.0 so.1 h header refl
+bare_cause hd st h b header starts its so = absurd (cc its)
 
-met_cause : (hd : Header) (h : Here) (b : Body) → h.header ≡ hd → is_met_abort b ≡ true → IsSo hd h.lines b → has_cause h b ≡ true
-met_cause hd h (body.Aborted l (cause.Conflict u m n)) header its so = so.0 so.1 h header refl
-met_cause hd h b header its so = absurd (cc its)
+met_cause : (hd : Header) (st : Start) (h : Here) (b : Body) → h.header ≡ hd → h.start ≡ st → is_met_abort b ≡ true →
+    IsSo hd st h.lines b → has_cause h b ≡ true
+met_cause hd st h (body.Aborted l (cause.Conflict u m n)) header starts its so = so.0 so.1 h header refl
+met_cause hd st h b header starts its so = absurd (cc its)
+
+old_cause : (hd : Header) (st : Start) (h : Here) (b : Body) → h.header ≡ hd → h.start ≡ st → is_old_abort b ≡ true →
+    IsSo hd st h.lines b → is_old_so h b ≡ true
+old_cause hd st h (body.Aborted l (cause.Old n x v)) header starts its so = so.0 so.1 h header starts refl
+old_cause hd st h b header starts its so = absurd (cc its)
 
 pub listed_row : RowHolds is_listed_abort
-listed_row hd r form = rows_so hd (λ h. is_listed_abort) (listed_cause hd) (journal_by hd r) (each_line hd r form) (FramesStep hd) r.start
-    (run_events hd r) (frames_are_caused hd r form)
+listed_row hd r form = rows_so hd r.start has_cause (λ h. is_listed_abort) (listed_cause hd r.start) (journal_by hd r) (each_line hd r form)
+    (FramesStep hd) (run_events hd r) (frames_are_caused hd r form)
 
 pub bare_row : RowHolds is_bare_abort
-bare_row hd r form = rows_so hd (λ h. is_bare_abort) (bare_cause hd) (journal_by hd r) (each_line hd r form) (FramesStep hd) r.start
-    (run_events hd r) (frames_are_caused hd r form)
+bare_row hd r form = rows_so hd r.start has_cause (λ h. is_bare_abort) (bare_cause hd r.start) (journal_by hd r) (each_line hd r form)
+    (FramesStep hd) (run_events hd r) (frames_are_caused hd r form)
 
 pub met_row : RowHolds is_met_abort
-met_row hd r form = rows_so hd (λ h. is_met_abort) (met_cause hd) (journal_by hd r) (each_line hd r form) (FramesStep hd) r.start
-    (run_events hd r) (frames_are_caused hd r form)
+met_row hd r form = rows_so hd r.start has_cause (λ h. is_met_abort) (met_cause hd r.start) (journal_by hd r) (each_line hd r form)
+    (FramesStep hd) (run_events hd r) (frames_are_caused hd r form)
+
+-- each that a store refused as too late has this much of its cause
+pub old_test : TestHolds is_old_so is_old_abort
+old_test hd r form = rows_so hd r.start is_old_so (λ h. is_old_abort) (old_cause hd r.start) (journal_by hd r) (each_line hd r form)
+    (FramesStep hd) (run_events hd r) (frames_are_caused hd r form)

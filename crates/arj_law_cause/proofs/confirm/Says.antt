@@ -1,6 +1,6 @@
 -- What naming's answer to a Confirm says of the journal where it is made, and that it says so.
 use Rattle.arj_law_parts.proofs.Words
-use Words.{⊤, ◌≡◌, ◌∙◌, ◌==◌, ◌++◌, ℕ, true, false, if◌then◌else◌, List, [], ◌∷◌, Option, Some, None, refl, sym, ap, subst, is_some}
+use Words.{⊤, ◌≡◌, ◌∙◌, ◌==◌, ◌++◌, ℕ, Bool, true, false, if◌then◌else◌, List, [], ◌∷◌, Option, Some, None, refl, sym, ap, subst, is_some}
 use Words.{and_parts, inl, inr, list_all, option_map, eqb-true, uid_number, numbered, Served, Ask, ConfirmedReply, Head, Header, Line}
 use Words.{Message, Reply, Uid, actor, asks, asked_by, response}
 use Words.{is_listed, is_on, top_of, Grants, Marks, confirm, first_of_each, has_all, marked, other_grant, conflict_in, Disk, Effect}
@@ -10,9 +10,13 @@ use Words.{if_naming, with_naming, Naming, Named, Node, Post, Seen, at_number, A
 use Words.{◌⊎◌, ◌<◌, ⊎_elim, ObjectState, IsFormed, entry_state, held_at, stores_after}
 use Words.{⊤, entry, eq-eqb, last_uid, Row, Path, Mode, top_path, is_wanted, wanted, wants_lock}
 use Words.{holder_of, state_entry, refused_exclude, first_conflict}
+use Words.{Start, PreparedReply, Prep, Prepare, Ready, Already, InDoubt, Old, Look, is_prepared, prepare_answer, prepare_by}
 use Words.ask
+use Words.body
 use Words.confirmed
 use Words.mode
+use Words.prepared
+use Words.role
 use Rattle.arj_journal.specs.ScriptForm.{HeaderInForm}
 use Rattle.arj_protocol.specs.Named.{conflict_on}
 use Rattle.arj_model.specs.CausePends.{has_some}
@@ -43,6 +47,7 @@ use Rattle.arj_law_cause.proofs.rows.Meeting.{meets_by}
 use Rattle.arj_law_cause.specs.rows.Tables.{Tables}
 use Rattle.arj_law_cause.proofs.confirm.{Began.acts_new, Conflicts.Hinders, Conflicts.IsHindered, Conflicts.Meets, Conflicts.changed_by}
 use Rattle.arj_law_cause.proofs.confirm.{Conflicts.conflicts, Entries.decided_more, Entries.entry_below, Entries.entry_writer}
+use Rattle.arj_law_cause.proofs.confirm.Olds.{IsTooLate, says_late, too_late}
 use Rattle.arj_law_cause.proofs.confirm.{Entries.next_not_old, Entries.starts_keep, Labels.written}
 use Rattle.arj_law_runs.proofs.journal.{Books.sane_lines, Books.sane_new, Models.act_there, Models.its_acts}
 use Rattle.arj_law_runs.specs.journal.Book.{book, is_decided, new_book}
@@ -82,14 +87,16 @@ refuses hd h excluded included (confirmed.Conflict u m) before = IsEarly before 
 refuses hd h excluded included r before = ⊤
 
 -- the commit was called, and a refusal is so
-abbrev pub says_of : Header → Head → Ask → Reply → List Line → Type 0
-says_of hd h (ask.Confirm grants excluded included) (Reply.Confirmed r) before =
+abbrev pub says_of : Header → Start → Head → Ask → Reply → List Line → Type 0
+says_of hd st h (ask.Confirm grants excluded included) (Reply.Confirmed r) before =
     is_called before (actor h.path) × refuses hd h excluded included r before
-says_of hd h a r before = ⊤
+says_of hd st h (ask.Prepare states) (Reply.Prepared (prepared.Old y v)) before =
+    is_called before (actor h.path) × says_late st h states y v before
+says_of hd st h a r before = ⊤
 
--- so it is of an answer
-abbrev pub confirms_so : Header → Saying
-confirms_so hd a before = says_of hd (let z = a in z.head) (let z = a in z.ask) (let z = a in z.reply) before
+-- so it is of an answer, in a run with this start
+abbrev pub confirms_so : Header → Start → Saying
+confirms_so hd st a before = says_of hd st (let z = a in z.head) (let z = a in z.ask) (let z = a in z.reply) before
 
 -- ---- where naming serves it
 
@@ -337,7 +344,7 @@ one_front [] x y is = refl
 one_front (f ∷ []) x y is = let no_way : ◌≡◌ {A = List Effect} [] (y ∷ []) = ap tail_of is in absurd (cc no_way)
 one_front (f ∷ g ∷ fs) x y is = let no_way : ◌≡◌ {A = List Effect} [] (g ∷ fs ++ y ∷ []) = ap tail_of is in absurd (cc no_way)
 
-module _ (hd : Header) (form : HeaderInForm hd) (k : ℕ) (d : Disk) (t v : Parts) (from : ℕ) (m : Message) (h : Head) (grants : Grants)
+module _ (hd : Header) (st : Start) (form : HeaderInForm hd) (k : ℕ) (d : Disk) (t v : Parts) (from : ℕ) (m : Message) (h : Head) (grants : Grants)
     (excluded included : Marks) (r : Reply) (front : List Effect) (M : Moment) (known : Wide (Reached hd) (up k d t M))
     (there : seen.In (record { from = from; to = k; message = m }) M.seen.sent)
     (asking : asks m ≡ Some (h, ask.Confirm grants excluded included))
@@ -422,38 +429,108 @@ module _ (hd : Header) (form : HeaderInForm hd) (k : ℕ) (d : Disk) (t v : Part
 
     by_reply : (o : Option ConfirmedReply) → Did_so.reply ≡ o →
         Sent (sends_answer from h (with_naming t Did_so.part) Did_so.outs (option_map Reply.Confirmed o)) →
-        says_of hd h (ask.Confirm grants excluded included) r (lines_behind M.past.number front M.seen.lines)
+        says_of hd st h (ask.Confirm grants excluded included) r (lines_behind M.past.number front M.seen.lines)
     by_reply None at e = let no_way : Void [] ≡ Took v (front ++ Send from (response (asked_by h) r) ∷ []) = e in absurd (cc no_way)
-    by_reply (Some q) at e = subst (λ z. says_of hd h (ask.Confirm grants excluded included) z
+    by_reply (Some q) at e = subst (λ z. says_of hd st h (ask.Confirm grants excluded included) z
         (lines_behind M.past.number front M.seen.lines))
         (sym (same_reply from h r (Reply.Confirmed q) front Did_so.outs (sym (ap outs_in e)))) (called, refuses_then q at e)
 
   confirm_says : Sent (serve k d t from h (ask.Confirm grants excluded included)) →
-      says_of hd h (ask.Confirm grants excluded included) r (lines_behind M.past.number front M.seen.lines)
+      says_of hd st h (ask.Confirm grants excluded included) r (lines_behind M.past.number front M.seen.lines)
   confirm_says = with_it t.naming refl
     where
       with_it : (f : Option Naming) → t.naming ≡ f →
           Sent (if_naming (λ o. served from h (with_naming t) Reply.Confirmed (confirm h.path grants excluded included d.names o)) f) →
-          says_of hd h (ask.Confirm grants excluded included) r (lines_behind M.past.number front M.seen.lines)
+          says_of hd st h (ask.Confirm grants excluded included) r (lines_behind M.past.number front M.seen.lines)
       with_it None named e = let no_way : Void [] ≡ Took v (front ++ Send from (response (asked_by h) r) ∷ []) = e in absurd (cc no_way)
       with_it (Some n) named e = by_reply n named (confirm h.path grants excluded included d.names n).reply refl e
+
+-- ---- what a store's answer says
+
+module _ (hd : Header) (st : Start) (form : HeaderInForm hd) (k : ℕ) (d : Disk) (t v : Parts) (from : ℕ) (m : Message) (h : Head)
+    (states : List ObjectState) (r : Reply) (front : List Effect) (M : Moment) (known : Wide (Reached hd) (up k d t M))
+    (starts : (let N = M.seen in N.start) ≡ st) (there : seen.In (record { from = from; to = k; message = m }) M.seen.sent)
+    (asking : asks m ≡ Some (h, ask.Prepare states)) where
+  abbrev stored : Seen
+  stored = let N = up k d t M in seen.with_sent known.0 N.seen
+
+  its_place : (let N = up k d t M in N.seen.nodes k) ≡ Some (record { number = k; disk = d; live = Some t })
+  its_place = λ i. if same_number k i then Some (record { number = k; disk = d; live = Some t }) else M.seen.nodes k
+
+  its_post : seen.In (record { from = from; to = k; message = m }) known.0
+  its_post = known.1 (record { from = from; to = k; message = m }) there
+
+  prepare_called : is_called M.seen.lines (actor h.path)
+  prepare_called = (reached_has hd BasedCalled (called_keep hd) (let N = up k d t M in seen.with_sent known.0 N.seen) known.2).1
+      (record { from = from; to = k; message = m }) h (ask.Prepare states) its_post asking
+
+  prepare_says : serve k d t from h (ask.Prepare states) ≡ Took v (front ++ Send from (response (asked_by h) r) ∷ []) →
+      says_of hd st h (ask.Prepare states) r (lines_behind M.past.number front M.seen.lines)
+  prepare_says e = by (is_prepared (actor h.path) d.store) (prepare_answer (actor h.path) states d.store) refl e
+    where
+      plain_so : (q : PreparedReply) → r ≡ Reply.Prepared q → ((y n : ℕ) → q ≡ prepared.Old y n → ⊥) →
+          says_of hd st h (ask.Prepare states) r (lines_behind M.past.number front M.seen.lines)
+      plain_so prepared.Yes is off = subst (λ z. says_of hd st h (ask.Prepare states) z (lines_behind M.past.number front M.seen.lines))
+          (sym is) tt
+      plain_so (prepared.InDoubt y u) is off =
+          subst (λ z. says_of hd st h (ask.Prepare states) z (lines_behind M.past.number front M.seen.lines)) (sym is) tt
+      plain_so (prepared.Old y n) is off = absurd (off y n refl)
+
+      by : (b : Bool) (a : Prep) → prepare_answer (actor h.path) states d.store ≡ a →
+          (if b then sends_answer from h t [] (Some (Reply.Prepared prepared.Yes)) else prepare_by k states from h t a)
+          ≡ Took v (front ++ Send from (response (asked_by h) r) ∷ []) →
+          says_of hd st h (ask.Prepare states) r (lines_behind M.past.number front M.seen.lines)
+      by true a is f = plain_so prepared.Yes (same_reply from h r (Reply.Prepared prepared.Yes) front [] (sym (ap outs_in f))) (λ y n z. cc z)
+      by false Ready is f = plain_so prepared.Yes (same_reply from h r (Reply.Prepared prepared.Yes) front
+          (Do Look ∷ Do (Prepare role.Store (actor h.path) states) ∷ Say (body.Prepared k (actor h.path) role.Store) ∷ [])
+          (sym (ap outs_in f))) (λ y n z. cc z)
+      by false (Already u) is f = let no_way : Void (Do Look ∷ []) ≡ Took v (front ++ Send from (response (asked_by h) r) ∷ []) = f in
+          absurd (cc no_way)
+      by false (InDoubt u w) is f = plain_so (prepared.InDoubt (let z = u in z.num) w) (same_reply from h r
+          (Reply.Prepared (prepared.InDoubt (let z = u in z.num) w)) front (Do Look ∷ []) (sym (ap outs_in f))) (λ y n z. cc z)
+      by false (Old u n) is f = subst (λ z. says_of hd st h (ask.Prepare states) z (lines_behind M.past.number front M.seen.lines))
+          (sym (same_reply from h r (Reply.Prepared (prepared.Old (let z = u in z.num) n)) front (Do Look ∷ []) (sym (ap outs_in f))))
+          (subst (λ ls. is_called ls (actor h.path) × says_late st h states (let z = u in z.num) n ls) (sym (behind_look f))
+          (prepare_called, λ early a began its opened. subst (λ s. IsTooLate s states (let z = u in z.num) n M.seen.lines) starts
+          (too_late hd form (let N = up k d t M in seen.with_sent known.0 N.seen) known.2 k d t its_place from m its_post h states asking u n
+          is early a began its opened)))
+        where
+          behind_look : Took t (Do Look ∷ Send from (response (asked_by h) (Reply.Prepared (prepared.Old (let z = u in z.num) n))) ∷ [])
+              ≡ Took v (front ++ Send from (response (asked_by h) r) ∷ []) →
+              lines_behind M.past.number front M.seen.lines ≡ M.seen.lines
+          behind_look f = two front (ap outs_in f)
+            where
+              two : (es : List Effect) → Do Look ∷ Send from (response (asked_by h) (Reply.Prepared (prepared.Old (let z = u in z.num) n))) ∷ []
+                  ≡ es ++ Send from (response (asked_by h) r) ∷ [] → lines_behind M.past.number es M.seen.lines ≡ M.seen.lines
+              two [] g = absurd (cc g)
+              two (Do w ∷ []) g = refl
+              two (Say b ∷ []) g = absurd (cc g)
+              two (Send to z ∷ []) g = refl
+              two (a ∷ b ∷ []) g = absurd (cc (ap tail_of (ap tail_of g)))
+              two (a ∷ b ∷ c ∷ es) g = absurd (cc (ap tail_of (ap tail_of g)))
 
 -- whose tables show locks in an event, and whose moments were reached
 abbrev pub Shows : Header → List Line → ℕ → Moment → Type 0
 Shows hd before event M = Tables hd before event M × Wide (Reached hd) M
 
-pub tells : (hd : Header) → HeaderInForm hd → (before : List Line) (event : ℕ) → ((j : ℕ) → (event == up_of j before) ≡ false) →
-    Tells (Shows hd before event) (confirms_so hd)
-tells hd form before event early k d t v from m h (ask.Confirm grants excluded included) r front M known there other meant asking new is =
-    let s = known.0.0.1 in
+-- in a run with this start
+abbrev pub ShowsFrom : Header → Start → List Line → ℕ → Moment → Type 0
+ShowsFrom hd st before event M = Shows hd before event M × ((let N = M.seen in N.start) ≡ st)
+
+pub tells : (hd : Header) (st : Start) → HeaderInForm hd → (before : List Line) (event : ℕ) → ((j : ℕ) → (event == up_of j before) ≡ false) →
+    Tells (ShowsFrom hd st before event) (confirms_so hd st)
+tells hd st form before event early k d t v from m h (ask.Confirm grants excluded included) r front M known there other meant asking new is =
+    let s = known.0.0.0.1 in
     let served_so = sym (ap (handle_ask k d t from m) asking) ∙ is in
-    confirm_says hd form k d t v from m h grants excluded included r front M known.1 there asking
-    (table_then hd before event early k d t v from m front (response (asked_by h) r) M s.0 s.1 s.2 known.0.1 other there meant is
+    confirm_says hd st form k d t v from m h grants excluded included r front M known.0.1 there asking
+    (table_then hd before event early k d t v from m front (response (asked_by h) r) M s.0 s.1 s.2 known.0.0.1 other there meant is
     (silent_front k d t v from h (ask.Confirm grants excluded included) r front served_so)).0 served_so
-tells hd form before event early k d t v from m h (ask.Bind x include avoid) r front M known there other meant asking new is = tt
-tells hd form before event early k d t v from m h (ask.Load x) r front M known there other meant asking new is = tt
-tells hd form before event early k d t v from m h (ask.Activate b st) r front M known there other meant asking new is = tt
-tells hd form before event early k d t v from m h (ask.Record x b i g) r front M known there other meant asking new is = tt
-tells hd form before event early k d t v from m h (ask.Invoke x b i ends op) r front M known there other meant asking new is = tt
-tells hd form before event early k d t v from m h (ask.Vote i ties ends) r front M known there other meant asking new is = tt
-tells hd form before event early k d t v from m h (ask.Prepare states) r front M known there other meant asking new is = tt
+tells hd st form before event early k d t v from m h (ask.Bind x include avoid) r front M known there other meant asking new is = tt
+tells hd st form before event early k d t v from m h (ask.Load x) r front M known there other meant asking new is = tt
+tells hd st form before event early k d t v from m h (ask.Activate b state) r front M known there other meant asking new is = tt
+tells hd st form before event early k d t v from m h (ask.Record x b i g) r front M known there other meant asking new is = tt
+tells hd st form before event early k d t v from m h (ask.Invoke x b i ends op) r front M known there other meant asking new is = tt
+tells hd st form before event early k d t v from m h (ask.Vote i ties ends) r front M known there other meant asking new is = tt
+tells hd st form before event early k d t v from m h (ask.Prepare states) r front M known there other meant asking new is =
+    prepare_says hd st form k d t v from m h states r front M known.0.1 known.1 there asking
+    (sym (ap (handle_ask k d t from m) asking) ∙ is)

@@ -19,7 +19,7 @@ use Rattle.arj_law_cause.proofs.rows.Holders.{one_passes}
 use Rattle.arj_law_cause.proofs.waits.waiting.{Called.called_so, Lists.any_in}
 
 -- the lines of a right journal so far are right
-right_front : (before after : List Line) → AreRight new_book (before ++ after) → AreRight new_book before
+pub right_front : (before after : List Line) → AreRight new_book (before ++ after) → AreRight new_book before
 right_front before after right = from new_book before after right
   where
     from : (B : Book) (ls ks : List Line) → AreRight B (ls ++ ks) → AreRight B ls

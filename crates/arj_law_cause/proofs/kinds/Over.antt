@@ -51,7 +51,7 @@ read_later f p xs n [] ms is = absurd (cc is)
 read_later f p xs n (l ∷ ls) ms is = put_later p n (f xs l.body) (read f (acts_after xs l.body) (n + 1) ls)
     (read f (acts_after xs l.body) (n + 1) (ls ++ ms)) (read_later f p (acts_after xs l.body) (n + 1) ls ms) is
 
-over_later : (ls ms : List Line) (a : Act) → is_over ls a ≡ true → is_over (ls ++ ms) a ≡ true
+pub over_later : (ls ms : List Line) (a : Act) → is_over ls a ≡ true → is_over (ls ++ ms) a ≡ true
 over_later ls ms a is = or_later (has_end (ended ls) a.id) (is_halted (halts ls) a) (has_end (ended (ls ++ ms)) a.id)
     (is_halted (halts (ls ++ ms)) a)
     (read_later ended_of (λ (e : Placed ℕ). e.it == a.id) [] 0 ls ms)

@@ -156,3 +156,8 @@ is_bare_abort _ = false
 abbrev pub is_met_abort : Body → Bool
 is_met_abort (body.Aborted l (cause.Conflict u m n)) = true
 is_met_abort _ = false
+
+-- a store refused a commit, since the state that it sent is too late
+abbrev pub is_old_abort : Body → Bool
+is_old_abort (body.Aborted l (cause.Old n x v)) = true
+is_old_abort _ = false

@@ -1,12 +1,16 @@
 -- What lines of some kinds say is so: parts of their causes.
-use Rattle.std.specs.Prelude.{Bool, true, ◌||◌, if◌then◌else◌}
+use Rattle.std.specs.Prelude.{◌+◌, [], ◌∷◌, Bool, true, ◌||◌, ◌&&◌, if◌then◌else◌, nat_le}
 use Rattle.arj_journal.specs.declared.body.Body.{Body}
 use Rattle.arj_journal.specs.declared.body.Body.TheVariants as body
+use Rattle.arj_journal.specs.declared.body.Cause.TheVariants as cause
+use Rattle.arj_journal.specs.declared.body.FrameKind.TheVariants as frame
 use Rattle.arj_text.specs.Label.{name}
 use Rattle.arj_model.specs.Actions.{act_in, acts}
+use Rattle.arj_model.specs.CauseCommits.{writers}
 use Rattle.arj_model.specs.CauseEnds.{is_commit_of}
 use Rattle.arj_model.specs.CauseLocks.{granted_caused, is_restart}
-use Rattle.arj_model.specs.CauseSpans.{Here, commit_here, holds_in}
+use Rattle.arj_model.specs.CausePends.{changes}
+use Rattle.arj_model.specs.CauseSpans.{Here, answered, commit_here, commits_so, holds_in}
 use Rattle.arj_model.specs.Refusals.{holds_of}
 use Rattle.arj_protocol.specs.Tree.{is_nested}
 
@@ -21,3 +25,10 @@ is_committed_so h (body.Committed l) =
     holds_of (λ a. if is_nested a.kind then is_commit_of (name l) h.event else holds_in (λ c. true) (commit_here h (name l)))
     (act_in (acts h.lines) (name l))
 is_committed_so h _ = true
+
+-- `aborted` with `old`. But for a restart of naming it has its cause: the store answered the Prepare of what the top changes, and by then the
+-- object had this version or a later one, above zero, which counts the committed tops that wrote it from where the run began.
+abbrev pub is_old_so : Here → Body → Bool
+is_old_so h (body.Aborted l (cause.Old n x v)) = nat_le 1 v && commits_so h (name l) (λ a c. changes h.lines a.id x
+    && answered h c a.uid.node n (frame.Prepared ∷ []) (λ before. nat_le v ((h.start.marks.states x).version + writers before x)))
+is_old_so h _ = true
