@@ -18,17 +18,17 @@ use Rattle.arj_model.specs.Past.{Past, nothing_yet}
 use Rattle.arj_law_cause.specs.form.Form.{AreInForm}
 use Rattle.arj_law_cause.specs.kinds.Kinds.{is_active, is_armed, is_bare_abort, is_bound, is_commit_done, is_committed, is_dropped}
 use Rattle.arj_law_cause.specs.kinds.Kinds.{is_found, is_got, is_granted_entry, is_granted_object, is_halted, is_limit, is_listed_abort}
-use Rattle.arj_law_cause.specs.kinds.Kinds.{is_lock_lowered, is_lost_commit, is_met_abort, is_opening, is_prepared, is_quiet, is_sent}
+use Rattle.arj_law_cause.specs.kinds.Kinds.{is_lock_lowered, is_lost_commit, is_met_abort, is_old_abort, is_opening, is_prepared, is_quiet, is_sent}
 use Rattle.arj_law_cause.specs.kinds.Kinds.{is_up, is_void}
 use Rattle.arj_law_cause.specs.kinds.Rows.{row, tested}
-use Rattle.arj_law_cause.specs.kinds.Tests.{is_granted_so, is_committed_so}
+use Rattle.arj_law_cause.specs.kinds.Tests.{is_granted_so, is_committed_so, is_old_so}
 use Rattle.arj_law_cause.specs.rows.Lines.{answer_fits}
 use Rattle.arj_law_cause.specs.waits.replies.Ends.{RepliesStep}
 use Rattle.arj_cause_tests.proofs.Words.{Run, after, b, end_from, instead, l, of_other_event, run, u, without}
 use Rattle.arj_cause_tests.proofs.Worked.{conflict, exclusion, inclusion, lost_lock, naming_stopped, nested_abort, no_store_left}
 use Rattle.arj_cause_tests.proofs.Worked.{rebinding}
 use Rattle.arj_cause_tests.proofs.Worked.{stop_at_decision_done}
-use Rattle.arj_cause_tests.proofs.Rare.{aborted_conflict, aborted_lost, changed_bind_naming}
+use Rattle.arj_cause_tests.proofs.Rare.{aborted_conflict, aborted_lost, aborted_old, changed_bind_naming}
 use Rattle.arj_cause_tests.proofs.Rarer.{changed_bind_server, conflict_pending}
 use Rattle.arj_cause_tests.proofs.WrongEvents.{begins, two_nodes}
 use Rattle.arj_cause_tests.proofs.WrongShows.{failing_from}
@@ -52,6 +52,9 @@ abbrev failing : (Here → Body → Bool) → Run → List ℕ
 failing test r = failing_from test r.header nothing_yet r.wrote
 
 -- those of one kind that lack their cause
+abbrev old_fits : Here → Body → Bool
+old_fits = tested is_old_so (λ h. is_old_abort)
+
 abbrev failing_of : (Body → Bool) → Run → List ℕ
 failing_of of r = failing (row (λ h. of)) r
 
@@ -250,6 +253,23 @@ met_nothing = refl
 -- by its own run it is so
 met_so : failing_of is_met_abort aborted_conflict ≡ []
 met_so = refl
+
+-- `aborted` with `old`: not so many writers, version zero, before any of them committed, and no answer
+old_many : failing old_fits (instead 111 (body.Aborted (l 76) (cause.Old 4 1 2)) aborted_old) ≡ 111 ∷ []
+old_many = refl
+
+old_none : failing old_fits (instead 111 (body.Aborted (l 76) (cause.Old 4 1 0)) aborted_old) ≡ 111 ∷ []
+old_none = refl
+
+old_early : failing old_fits (instead 86 (body.Aborted (l 87) (cause.Old 4 1 1)) aborted_old) ≡ 86 ∷ 111 ∷ []
+old_early = refl
+
+old_silent : failing old_fits (instead 108 (body.Sent 41 5 2 frame.Prepared) aborted_old) ≡ 111 ∷ []
+old_silent = refl
+
+-- by its own run it is so
+old_so : failing old_fits aborted_old ≡ []
+old_so = refl
 
 -- `found`: in no restart
 found : failing_of is_found (after 24 (body.Recovered 1 (u 1 1 1) ∷ []) stop_at_decision_done) ≡ 25 ∷ []

@@ -1,7 +1,7 @@
 // Rows of causes: lines of the world, and what nodes do.
-ghost use Rattle.arj_law_cause.specs.kinds.Kinds.{is_abort_done, is_armed, is_bare_abort, is_commit_done, is_committed, is_copy_shown, is_denial, is_dropped, is_entry_shown, is_found, is_got, is_granted_object, is_granted_entry, is_halted, is_limit, is_listed_abort, is_lost_commit, is_met_abort, is_opening, is_plain_refusal, is_prepared, is_quiet, is_sent, is_told, is_up, is_void};
+ghost use Rattle.arj_law_cause.specs.kinds.Kinds.{is_abort_done, is_armed, is_bare_abort, is_commit_done, is_committed, is_copy_shown, is_denial, is_dropped, is_entry_shown, is_found, is_got, is_granted_object, is_granted_entry, is_halted, is_limit, is_listed_abort, is_lost_commit, is_met_abort, is_old_abort, is_opening, is_plain_refusal, is_prepared, is_quiet, is_sent, is_told, is_up, is_void};
 ghost use Rattle.arj_law_cause.specs.kinds.Rows.{RowHolds, RowHoldsWhere, TestHolds};
-ghost use Rattle.arj_law_cause.specs.kinds.Tests.{is_granted_so, is_committed_so};
+ghost use Rattle.arj_law_cause.specs.kinds.Tests.{is_granted_so, is_committed_so, is_old_so};
 
 /// In every run in form, wherever it begins and wherever disks stop, each line of a frame has its cause by the events and the lines before
 /// it, row by row: a frame that is sent has the next number and goes from a node that is up, or from nobody where the script hands over
@@ -101,12 +101,15 @@ pub fn lost_commits_have_causes()
 /// In every such run a commit that is under way is aborted for a store that is listed where the action includes the store, doesn't exclude
 /// it, and it was listed by the journal at the place of the commit's span at which naming answered; and for want of stores where the action
 /// excludes each store that was listed there, of which there were some, and each that it includes; and for a conflict where the top met this
-/// row there, as the first one against the exclude lock, on the entry of an object from which the action excludes a store. It does nothing
-/// when it runs.
+/// row there, as the first one against the exclude lock, on the entry of an object from which the action excludes a store. It is aborted for
+/// a state that a store refused as too late where the action changes the object, and the store answered its Prepare at a place of the span at
+/// which the object had the version that the store told, above zero, or a later one, by the committed tops that wrote it, counted from where
+/// the run began; that naming restarted since isn't said. It does nothing when it runs.
 pub fn refused_commits_have_causes()
     ensures listed { RowHolds is_listed_abort }
     ensures bare { RowHolds is_bare_abort }
     ensures met { RowHolds is_met_abort }
+    ensures old { TestHolds is_old_so is_old_abort }
 {}
 
 /// In every such run something is prepared for an action that began and whose commit was called: at a store where a write or an include of it

@@ -17,7 +17,7 @@ use Rattle.arj_start.specs.Start.{Start}
 use Rattle.arj_law_cause.proofs.bindings.Active.{active_row}
 use Rattle.arj_law_cause.proofs.bindings.Bound.{bound_row}
 use Rattle.arj_law_cause.proofs.bindings.Lowered.{lowered_row}
-use Rattle.arj_law_cause.proofs.confirm.Runs.{bare_row, listed_row, met_row}
+use Rattle.arj_law_cause.proofs.confirm.Runs.{bare_row, listed_row, met_row, old_test}
 use Rattle.arj_law_cause.proofs.kinds.Aborts.{abort_row}
 use Rattle.arj_law_cause.proofs.kinds.Committed.{done_row}
 use Rattle.arj_law_cause.proofs.kinds.Committing.{committed_run}
@@ -41,10 +41,10 @@ use Rattle.arj_law_cause.proofs.votes.Prepared.{prepared_row}
 use Rattle.arj_law_cause.specs.kinds.Kinds.{is_abort_done, is_active, is_armed, is_bare_abort, is_bound, is_commit_done, is_committed}
 use Rattle.arj_law_cause.specs.kinds.Kinds.{is_copy_shown, is_denial, is_dropped, is_entry_shown, is_found, is_got}
 use Rattle.arj_law_cause.specs.kinds.Kinds.{is_granted_entry, is_granted_object, is_halted, is_limit, is_listed_abort, is_lock_lowered}
-use Rattle.arj_law_cause.specs.kinds.Kinds.{is_lost_commit, is_met_abort, is_opening, is_prepared, is_quiet, is_sent, is_told}
+use Rattle.arj_law_cause.specs.kinds.Kinds.{is_lost_commit, is_met_abort, is_old_abort, is_opening, is_prepared, is_quiet, is_sent, is_told}
 use Rattle.arj_law_cause.specs.kinds.Kinds.{is_up, is_void}
 use Rattle.arj_law_cause.specs.kinds.Rows.{row, tested}
-use Rattle.arj_law_cause.specs.kinds.Tests.{is_committed_so, is_granted_so}
+use Rattle.arj_law_cause.specs.kinds.Tests.{is_committed_so, is_granted_so, is_old_so}
 use Rattle.arj_law_cause.specs.rows.Lines.{answer_fits}
 use Rattle.arj_law_cause.specs.told.Lines.{TellsWhy, is_told_why}
 
@@ -105,8 +105,8 @@ module _ (hd : Header) (st : Start) (es : List Event) (journal : List Line) wher
 
 -- ---- in every run
 
-abbrev tests : List Test
-tests =
+abbrev others : List Test
+others =
     answer_fits
     ∷ row (λ h. is_opening)
     ∷ tested is_committed_so (λ h. is_committed)
@@ -137,12 +137,15 @@ tests =
     ∷ row (λ h. is_copy_shown)
     ∷ []
 
+abbrev tests : List Test
+tests = tested is_old_so (λ h. is_old_abort) ∷ others
+
 module _ (hd : Header) (r : Run hd) (form : IsInForm hd r) where
   abbrev Its : Test → Type 0
   Its = IsKnown hd r.start (run_events hd r) (journal_by hd r)
 
-  all_known : AllByRecursion Its tests
-  all_known = (
+  others_known : AllByRecursion Its others
+  others_known = (
     (λ h c. refl, answers_are_caused hd r form),
     ((
       (λ h c. refl, opening_row hd r form),
@@ -226,6 +229,9 @@ module _ (hd : Header) (r : Run hd) (form : IsInForm hd r) where
     )),
   )
 
+  all_known : AllByRecursion Its tests
+  all_known = ((λ h c. refl, old_test hd r form), others_known)
+
 -- what a line passes says why it stands
 why : (h : Here) (b : Body) → all_of tests h b ≡ true → is_told_why h b ≡ true
 why h (body.Began l k u p) is = (and_parts (is_told_why h (body.Began l k u p)) true is).0
@@ -262,7 +268,7 @@ why h (body.Conflict l u mode n) is = (and_parts (answer_fits h (body.Conflict l
 why h (body.Changed l n d) is = (and_parts (answer_fits h (body.Changed l n d)) true is).0
 why h (body.Committed l) is = (and_parts (is_committed_so h (body.Committed l)) true is).0
 why h (body.Aborted l (cause.Changed n d)) is = refl
-why h (body.Aborted l (cause.Old n x v)) is = refl
+why h (body.Aborted l (cause.Old n x v)) is = (and_parts (is_old_so h (body.Aborted l (cause.Old n x v))) true is).0
 why h (body.GaveUp l n) is = refl
 why h (body.Excluded l x n) is = refl
 why h (body.Prepared n u r) is = (and_parts (is_told_why h (body.Prepared n u r)) true is).0
