@@ -18,7 +18,8 @@ use Rattle.arj_model.specs.Past.{Past, nothing_yet}
 use Rattle.arj_law_cause.specs.form.Form.{AreInForm}
 use Rattle.arj_law_cause.specs.kinds.Kinds.{is_active, is_armed, is_bare_abort, is_bound, is_commit_done, is_committed, is_dropped}
 use Rattle.arj_law_cause.specs.kinds.Kinds.{is_found, is_got, is_granted_entry, is_granted_object, is_halted, is_limit, is_listed_abort}
-use Rattle.arj_law_cause.specs.kinds.Kinds.{is_lock_lowered, is_lost_commit, is_met_abort, is_old_abort, is_opening, is_prepared, is_quiet, is_sent}
+use Rattle.arj_law_cause.specs.kinds.Kinds.{is_lock_lowered, is_lost_commit, is_met_abort, is_old_abort, is_opening, is_prepared}
+use Rattle.arj_law_cause.specs.kinds.Kinds.{is_quiet, is_sent}
 use Rattle.arj_law_cause.specs.kinds.Kinds.{is_up, is_void}
 use Rattle.arj_law_cause.specs.kinds.Rows.{row, tested}
 use Rattle.arj_law_cause.specs.kinds.Tests.{is_granted_so, is_committed_so, is_old_so}

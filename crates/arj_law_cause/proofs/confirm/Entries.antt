@@ -3,7 +3,8 @@
 use Rattle.arj_law.proofs.{JoinedSaid.tops_decided, Moves.all_arrange}
 use Rattle.arj_law.proofs.JoinedSaid as said
 use Rattle.arj_law_parts.proofs.Words
-use Words.{◌≡◌, ◌≤◌, ◌<◌, ◌⊎◌, ◌∙◌, ◌+◌, ◌++◌, ◌==◌, ◌&&◌, ◌||◌, not, ℕ, suc, Bool, true, false, cond, List, [], ◌∷◌, length, Option, Some, None}
+use Words.{◌≡◌, ◌≤◌, ◌<◌, ◌⊎◌, ◌∙◌, ◌+◌, ◌++◌, ◌==◌, ◌&&◌, ◌||◌, not, ℕ, suc, Bool, true, false, cond, List, [], ◌∷◌, length, Option}
+use Words.{Some, None}
 use Words.{refl, sym, ap, subst, inl, inr, arith, nat_tests, nat_lt, AllByRecursion, and_parts, cons_option, option_map, Body, Line, Uid}
 use Words.{Header, ObjectState, name, is_on, is_old, next_version, state_eq, uid_eq, uid_is, most_labels, again_all, begin_action}
 use Words.{Disk, Do, Effect, Say, Send, Parts, worked, acts as does, parent_of, parts_in, restart_outs, tick_outs, with_coord, is_serial}

@@ -1,10 +1,14 @@
--- What a store's answer to a Prepare says, where it refuses a state as too late: of which object that is, that it holds a version above zero,
--- and that the journal counts as many.
+-- What a store's answer to a Prepare says, where it refuses a state as too late: of which object that is, that it holds a version above
+-- zero, and that the journal counts as many.
 use Rattle.arj_law_parts.proofs.Words
-use Words.{◌≡◌, ◌≤◌, ◌∙◌, ◌+◌, ◌==◌, ◌&&◌, ◌||◌, not, ℕ, Bool, true, false, cond, if◌then◌else◌, List, [], ◌∷◌, Option, Some, None, refl, sym, ap}
-use Words.{subst, inl, inr, ⊎_elim, arith, nat_tests, nat_lt, is_some, and_parts, eqb-true, option_map, unwrap_or, AllByRecursion, In, uid_is, uid_eq}
-use Words.{uid_same, bytes_eq, bytes_eq-Decides, actor, asks, object, Ask, Disk, Head, Header, Line, Message, Node, ObjectState, Parts, Post, Prep}
-use Words.{Ready, Old, Already, InDoubt, Seen, Start, Uid, Used, changed_of, either, first_refusal, held_at, holder_of, is_old, prepare_answer}
+use Words.{◌≡◌, ◌≤◌, ◌∙◌, ◌+◌, ◌==◌, ◌&&◌, ◌||◌, not, ℕ, Bool, true, false, cond, if◌then◌else◌, List, [], ◌∷◌, Option, Some, None, refl}
+use Words.{sym, ap}
+use Words.{subst, inl, inr, ⊎_elim, arith, nat_tests, nat_lt, is_some, and_parts, eqb-true, option_map, unwrap_or, AllByRecursion, In}
+use Words.{uid_is, uid_eq}
+use Words.{uid_same, bytes_eq, bytes_eq-Decides, actor, asks, object, Ask, Disk, Head, Header, Line, Message, Node, ObjectState, Parts}
+use Words.{Post, Prep}
+use Words.{Ready, Old, Already, InDoubt, Seen, Start, Uid, Used, changed_of, either, first_refusal, held_at, holder_of, is_old}
+use Words.{prepare_answer}
 use Words.{refusal_in, refusal_of, by_holder, state_eq, uid_number, plan_of, Machine, Voting, Preparing, Confirming, Committing, Plan, Kind}
 use Words.{are_of_objects, is_object, names_object, nat_le, class_code_of, Pair}
 use Words.ask
@@ -16,7 +20,7 @@ use Rattle.arj_law_disk.specs.machine.State as disk
 use Rattle.arj_law_disk.specs.machine.State.{Known, Packed, State, target, state_for}
 use Rattle.arj_law_disk.proofs.machine.Listing.{plain_target}
 use Rattle.arj_law_disk_view.proofs.Terms
-use Terms.{Office, Among, SeesBoth, SeesStore, SeesCoord}
+use Terms.{SeesBoth, SeesStore, SeesCoord}
 use Rattle.arj_law_disk_view.proofs.view.{DecideWalks.confirming_of, HeardWalks.preparing_of}
 use Rattle.arj_law_disk_view.specs.view.Pairs.{packed}
 use Rattle.arj_law_disk_view.specs.view.Plans.{plan_at, plan_by, used_at}
@@ -24,7 +28,6 @@ use Rattle.arj_law_disk_view.specs.view.Stores.{ClaimsPrepare}
 use Rattle.arj_law_disk_view.specs.view.Sees as sees
 use Rattle.arj_law_lock_view.proofs.Terms.{same_number, some_is}
 use Rattle.arj_law_lock_view.specs.facts.Entries.{HasObject}
-use Rattle.arj_law_parts.proofs.moves.Happens.{keeps_asked}
 use Rattle.arj_law_parts.specs.moves.Seen as seen
 use Rattle.arj_law_promise.proofs.meant.Requests.{meant_keep}
 use Rattle.arj_law_promise.specs.meant.Meant.{AskFits, MeantAreKnown}
@@ -32,7 +35,8 @@ use Rattle.arj_law_serial.proofs.joint.{Clean.object_some, Joining.among_of}
 use Rattle.arj_law_serial.proofs.order.Contents.{one_state}
 use Rattle.arj_model.specs.Actions.{Act, acts, is_over}
 use Rattle.arj_model.specs.Last.{count_tops, object_line, writes_of}
-use Rattle.arj_law_cause.proofs.confirm.{Called.BasedCalled, Called.called_keep, Called.is_called, Joined.IsEarly, Joined.IsSeenSo, Joined.seen_so}
+use Rattle.arj_law_cause.proofs.confirm.{Called.BasedCalled, Called.called_keep, Called.is_called, Joined.IsEarly, Joined.IsSeenSo}
+use Rattle.arj_law_cause.proofs.confirm.{Joined.seen_so}
 use Rattle.arj_law_cause.proofs.confirm.{Opened.IsAtCommit, Opened.at_commit, Opened.same_there, Reached.Reached, Reached.reached_has}
 use Rattle.arj_law_cause.proofs.confirm.{Versions.held_low, Versions.zero_is_one}
 use Rattle.arj_law_cause.proofs.votes.Written.{changed_version}

@@ -1,14 +1,14 @@
 -- An open action of the journal whose commit was called is at that commit, at its coordinator.
 use Rattle.arj_law_parts.proofs.Words
-use Words.{◌≡◌, ◌∙◌, ◌==◌, ◌&&◌, ◌||◌, not, ℕ, Bool, true, false, cond, if◌then◌else◌, Option, Some, None, is_some, refl, sym, ap, subst, inl, inr, In}
-use Words.{and_parts, eqb-true, in_to, is_on, list_any, Header, Node, Parts, Seen, Uid, uid_eq, uid_same, Branch, branch_of, Committing, Doing}
-use Words.{Machine, Now, Calling, Idle, doing_of, is_committing_now, is_own, Disk}
+use Words.{◌≡◌, ◌∙◌, ◌==◌, ◌&&◌, ◌||◌, not, ℕ, Bool, true, false, if◌then◌else◌, Option, Some, None, is_some, refl, sym, ap, subst, In}
+use Words.{and_parts, eqb-true, in_to, is_on, Header, Node, Parts, Seen, Uid, uid_eq, uid_same, Branch, branch_of, Committing, Doing}
+use Words.{Machine, Now, Calling, Idle, doing_of, is_committing_now, is_own}
 use Rattle.arj_law_parts.proofs.moves.Happens.{keeps_asked}
 use Rattle.arj_law_parts.specs.moves.Seen.{up}
 use Rattle.arj_law_runs.proofs.follow.Halts.{KnowsAll, halts_keep, is_alive}
 use Rattle.arj_law_runs.proofs.journal.Models.{its_acts, its_sound}
 use Rattle.arj_law_runs.proofs.kept.Walked.{same_number}
-use Rattle.arj_law_runs.specs.journal.Book.{Book, book, new_book}
+use Rattle.arj_law_runs.specs.journal.Book.{book, new_book}
 use Rattle.arj_law_runs.specs.journal.Right.{AreRight}
 use Rattle.arj_law_serial.proofs.order.Paths.{own_there}
 use Rattle.arj_model.specs.Actions.{Act, acts, ended, halts, has_end, is_halted, is_over, path, uids}

@@ -263,14 +263,16 @@ module _ (hd : Header) (st : Start) where
       labels = λ M h. (
         (
           (let s = k.steps in s.quiet (body.Limit which.Labels ∷ []) M refl h.0.0),
-          ((let s = b.steps in s.quiet (body.Limit which.Labels ∷ []) M refl h.0.1.0),
-          made_later (confirms_so hd st) M (said (body.Limit which.Labels ∷ []) M) (record {
-            more = numbered M.past.number (body.Limit which.Labels ∷ []);
-            lines = refl;
-            askings = refl;
-            sent = λ p i. i;
-            full = λ f. f;
-          }) (λ j. refl) (λ p i. i) h.0.1.1),
+          (
+            (let s = b.steps in s.quiet (body.Limit which.Labels ∷ []) M refl h.0.1.0),
+            made_later (confirms_so hd st) M (said (body.Limit which.Labels ∷ []) M) (record {
+              more = numbered M.past.number (body.Limit which.Labels ∷ []);
+              lines = refl;
+              askings = refl;
+              sent = λ p i. i;
+              full = λ f. f;
+            }) (λ j. refl) (λ p i. i) h.0.1.1,
+          ),
         ),
         mute (body.Limit which.Labels ∷ []) M refl h.1,
       );
@@ -282,8 +284,13 @@ module _ (hd : Header) (st : Start) where
     lines_fit r starts =
         let k = reached_wide in
         let z = moves_stand hd Between Inner its_beside r.moves (no_history r.start) (world_from hd r.start)
-        (first_so hd Between Inner its_beside r.start r.formed ((([], (λ p i. i), k.first r.start r.formed),
-        (([], (λ p i. i), starts), first_made hd (confirms_so hd st) r.start r.formed)), tt)) in
+        (first_so hd Between Inner its_beside r.start r.formed (
+          (
+            ([], (λ p i. i), k.first r.start r.formed),
+            (([], (λ p i. i), starts), first_made hd (confirms_so hd st) r.start r.formed),
+          ),
+          tt,
+        )) in
         let h = z.holds in h.now.holds.1.1
 
 -- a run's lines are early

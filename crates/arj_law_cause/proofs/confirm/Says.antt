@@ -490,10 +490,12 @@ module _ (hd : Header) (st : Start) (form : HeaderInForm hd) (k : ℕ) (d : Disk
           (Reply.Prepared (prepared.InDoubt (let z = u in z.num) w)) front (Do Look ∷ []) (sym (ap outs_in f))) (λ y n z. cc z)
       by false (Old u n) is f = subst (λ z. says_of hd st h (ask.Prepare states) z (lines_behind M.past.number front M.seen.lines))
           (sym (same_reply from h r (Reply.Prepared (prepared.Old (let z = u in z.num) n)) front (Do Look ∷ []) (sym (ap outs_in f))))
-          (subst (λ ls. is_called ls (actor h.path) × says_late st h states (let z = u in z.num) n ls) (sym (behind_look f))
-          (prepare_called, λ early a began its opened. subst (λ s. IsTooLate s states (let z = u in z.num) n M.seen.lines) starts
-          (too_late hd form (let N = up k d t M in seen.with_sent known.0 N.seen) known.2 k d t its_place from m its_post h states asking u n
-          is early a began its opened)))
+          (subst (λ ls. is_called ls (actor h.path) × says_late st h states (let z = u in z.num) n ls) (sym (behind_look f)) (
+            prepare_called,
+            λ early a began its opened. subst (λ s. IsTooLate s states (let z = u in z.num) n M.seen.lines) starts
+                (too_late hd form (let N = up k d t M in seen.with_sent known.0 N.seen) known.2 k d t its_place from m its_post h states asking u n
+                is early a began its opened),
+          ))
         where
           behind_look : Took t (Do Look ∷ Send from (response (asked_by h) (Reply.Prepared (prepared.Old (let z = u in z.num) n))) ∷ [])
               ≡ Took v (front ++ Send from (response (asked_by h) r) ∷ []) →

@@ -2,13 +2,12 @@
 -- version zero are one.
 use Rattle.arj_law_disk.proofs.machine.History.{known_below}
 use Rattle.arj_law_disk.specs.machine.Core.{Chain, Core, History}
-use Rattle.arj_law_disk.specs.machine.State.{Below, Done, IsPast, Known, KnownIn, Packed, State, last, last_in}
-use Rattle.arj_law_disk.specs.machine.Words as words
+use Rattle.arj_law_disk.specs.machine.State.{Below, Done, Known, KnownIn, Packed, State, last}
 use Rattle.arj_law_disk_view.specs.deciding_lines.Said.{IsJournalled}
 use Rattle.arj_law_disk_view.specs.view.Pairs.{packed}
 use Rattle.arj_law_disk_view.specs.view.Stores.{SeesStore}
 use Rattle.arj_law_parts.proofs.Words
-use Words.{◌≡◌, ◌≤◌, ◌<◌, ◌∙◌, ◌+◌, ℕ, Bool, true, List, [], ◌∷◌, Option, Some, None, option_map, refl, sym, ap, subst, inl, inr, ⊎_elim, arith, is_some}
+use Words.{◌≡◌, ◌≤◌, ◌<◌, ◌∙◌, ◌+◌, ℕ, true, List, [], ◌∷◌, Some, option_map, sym, ap, subst, inl, inr, arith, is_some}
 use Words.{Header, Node, ObjectState, Seen, World, held_at, object, at_place, see}
 use Rattle.arj_law_runs.specs.calls.Reached.{IsReached}
 use Rattle.arj_law_serial.proofs.Terms.{HeaderInForm, OpsFit, object_line}

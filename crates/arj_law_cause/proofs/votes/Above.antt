@@ -1,6 +1,7 @@
 -- A changed state that a commit has is of a version above zero.
 use Rattle.arj_law_parts.proofs.Words
-use Words.{◌≡◌, ◌≤◌, ◌∙◌, ◌==◌, ◌&&◌, ℕ, List, Bool, true, false, Option, Some, None, arith, refl, sym, ap, and_parts, eqb-true, option_map, find}
+use Words.{◌≡◌, ◌≤◌, ◌∙◌, ◌==◌, ◌&&◌, ℕ, List, Bool, true, false, Option, Some, None, arith, refl, sym, ap, and_parts, eqb-true}
+use Words.{option_map, find}
 use Words.{in_find, in_find_none, in_from, in_to, eq-eqb, ObjectState, Over, Uid, Used, changed_of, has, over_of, next_version, Plan, In}
 use Rattle.arj_law_serial.proofs.Terms.{State, Fixed, side_at}
 use Rattle.arj_law_lock_view.specs.view.{Serving.IsVotedSo, Voted.HasVotes, Voted.IsCalledIn, Voted.Side}
