@@ -2,9 +2,9 @@
 --
 -- A conflict is with the first row that stands against what was asked, and an operation is run in its lock (`Meeting`). Inside of an event
 -- all lines are of it (`Inside`), so tables show locks there, of actions that began (`Holders`), what a store has in doubt was prepared
--- there (`Pending`), at one that may be a store of it, as whoever loads asks (`Stores`), and of an action that has changed it (`Changing`),
--- and whoever answers says what the table has (`Telling`). Event by event so it is in whole runs (`Running`), and the first conflicts of
--- tables and of nodes are the same at each moment (`Agreeing`).
+-- there (`Pending`, `Asked`), at one that may be a store of it, as whoever loads asks (`Stores`), and of an action that has changed it
+-- (`Changing`), and whoever answers says what the table has (`Telling`). Event by event so it is in whole runs (`Running`), and the first
+-- conflicts of tables and of nodes are the same at each moment (`Agreeing`).
 --
 -- A call ends at its coordinator by the answer that it takes, or given up (`Ending`). There the action waits for what was asked
 -- last, and the answer was made in its span (`Taking`), under its path (`Paths`), where the journal's row finds it (`Spans`, `Rows`); what
@@ -18,6 +18,7 @@ pub mod Holders
 pub mod Telling
 pub mod Differing
 pub mod Pending
+pub mod Asked
 pub mod Stores
 pub mod Changing
 pub mod Running

@@ -11,8 +11,9 @@ ghost use Rattle.arj_law_cause.specs.rows.Lines.{AnswersHaveCauses};
 /// table of naming's node had its top's write lock on the entry. And what is lost was given up in the event, as the line before
 /// says. Of one answer it says less: of a conflict that a store says, over a state in doubt, it says that this node answered a
 /// Load in the span, and may be a store of the object by the journal, of an action that began, isn't on the path that asks, and by
-/// then had changed the object; and that since its commit was called it prepared something there, or the node stopped, whatever it
-/// was doing, and no end of it is done there since. And one that
+/// then had changed the object; and that since its commit was called it prepared something there, or the node stopped, which is the
+/// action's own or was sent a Prepare by that one before, whatever it was doing as it stopped, and no end of it is done there since.
+/// And one that
 /// says what changed is of a call that was told so in the span, by the node that is named or by naming, unless the action runs at
 /// either; and there the one copy was active before the other at the node, as it showed in the span, or the node was in the new
 /// incarnation in the span, and in the old one had a copy of the object. Of two things it says less: of bindings that differ by what

@@ -706,7 +706,7 @@ module _ (hd : Header) (k : ℕ) (M : Moment) (h : Here) (header : h.header ≡ 
         called = by (called_at T.before v) refl so.0
           where
             by : (o : Option (Placed (List Act))) → called_at T.before v ≡ o →
-                holds_in (λ (z : Placed (List Act)). may_pend from v false (drop z.at T.before)) o ≡ true → IsCalledAt T.before v
+                holds_in (λ (z : Placed (List Act)). may_pend from v (take z.at T.before) false (drop z.at T.before)) o ≡ true → IsCalledAt T.before v
             by None none e = absurd (cc e)
             by (Some z) some e = (z, some)
 

@@ -20,7 +20,7 @@ use Rattle.arj_law_parts.proofs.moves.Worlds.{says_hold}
 use Rattle.arj_law_parts.specs.moves.Moments as Moments
 use Rattle.arj_law_parts.specs.moves.Moments.{History, Moment, asks_now, come, given, no_history, said}
 use Rattle.arj_law_parts.specs.moves.Seen as seen
-use Rattle.arj_law_parts.specs.moves.With.{Closes, HoldsAt, HoldsWith, KeepsSteps, KeepsWith, Opens, UpWith, Wrote, asked_of_node, look, past_event}
+use Rattle.arj_law_parts.specs.moves.With.{Closes, HoldsAt, HoldsWith, KeepsAll, KeepsSteps, Opens, UpWith, Wrote, asked_of_node, look, past_event}
 use Rattle.arj_law_parts.specs.moves.With.{past_moves, past_unless, written}
 use Rattle.arj_law_parts.specs.steps.Writes as writes
 use Rattle.arj_law_serial.proofs.holding.{Events.IsShown, Events.event_shown, Events.first_is_shown, Events.first_showing}
@@ -29,12 +29,12 @@ use Rattle.arj_model.specs.Past.{Past}
 use Rattle.arj_law_cause.proofs.confirm.Reached.{Reached, reached_kept}
 use Rattle.arj_law_cause.proofs.rows.Changing.{doubt_changed}
 use Rattle.arj_law_cause.proofs.rows.{Inside.inside_step, Telling.served_says, Telling.silent_front, Telling.table_then}
-use Rattle.arj_law_cause.proofs.rows.Pending.{StoresPend, pending_keep}
+use Rattle.arj_law_cause.proofs.waits.lost.Bound.{all_both}
+use Rattle.arj_law_cause.proofs.rows.Asked.{ArePending, pending_keep}
 use Rattle.arj_law_cause.proofs.rows.Stores.{StoresAreKnown, stored_keep}
-use Rattle.arj_law_promise.proofs.Terms.{IsAtStarts, KeepsAsked, asked_both, keeps_asked, keeps_given, kept_both}
+use Rattle.arj_law_promise.proofs.Terms.{IsAtStarts, KeepsAsked, asked_both, keeps_asked}
 use Rattle.arj_law_parts.proofs.moves.Flat.{post}
 use Rattle.arj_model.specs.CausePends.{may_store}
-use Rattle.arj_law_promise.proofs.settling.{Stills.IsRight}
 use Rattle.arj_law_cause.specs.rows.{Early.IsEarly, Runs.RunsMeetRows, Says.has_changed, Says.may_be_pending, Says.says_so, Tables.Inside, Tables.Tables}
 
 -- ---- two relations
@@ -67,30 +67,35 @@ steps_both hd P Q p q = record {
 
 -- ---- what is known between events
 
--- outcomes, what stores have prepared, and which nodes may be stores; and what is seen has come about by what nodes do
+-- which nodes may be stores, and what is seen has come about by what nodes do
 abbrev pub Right : Header → Seen → Type 0
-Right hd S = ((IsRight S × StoresPend S) × StoresAreKnown hd S) × Reached hd S
+Right hd S = StoresAreKnown hd S × Reached hd S
 
 right_keep : (hd : Header) → KeepsAsked hd (Right hd)
-right_keep hd = asked_both hd (λ S. (IsRight S × StoresPend S) × StoresAreKnown hd S) (Reached hd)
-    (keeps_asked hd (λ S. (IsRight S × StoresPend S) × StoresAreKnown hd S)
-    (kept_both hd (λ S. IsRight S × StoresPend S) (StoresAreKnown hd) (pending_keep hd)
-    (keeps_given hd (λ S. IsRight S × StoresPend S) (StoresAreKnown hd) (stored_keep hd)))) (reached_kept hd)
+right_keep hd = asked_both hd (StoresAreKnown hd) (Reached hd) (keeps_asked hd (StoresAreKnown hd) (stored_keep hd)) (reached_kept hd)
 
-right_wide : (hd : Header) → KeepsWith hd (IsAtStarts hd (Right hd)) (Wide (Right hd))
-right_wide hd = wide_kept hd (IsAtStarts hd (Right hd)) (Right hd) (right_keep hd)
+right_wide : (hd : Header) → KeepsAll hd (Wide (Right hd))
+right_wide hd = let k = wide_kept hd (IsAtStarts hd (Right hd)) (Right hd) (right_keep hd) in
+    record { opens = k.opens; closes = k.closes; steps = k.steps; first = λ st formed. ([], (λ p i. i), k.first st formed) }
+
+-- and what stores have prepared
+abbrev pub Rights : Header → Moment → Type 0
+Rights hd M = Wide (Right hd) M × ArePending M
+
+rights_keep : (hd : Header) → KeepsAll hd (Rights hd)
+rights_keep hd = all_both hd (Wide (Right hd)) ArePending (right_wide hd) (pending_keep hd)
 
 abbrev pub Base : Seen → Type 0
 Base S = (begun : List Action) × KnownOf begun S
 
 abbrev pub Core : Header → Moment → Type 0
-Core hd M = ((Wide Known M × Wide Base M) × Wide (Right hd) M) × AnswersAreMade (says_so hd) M
+Core hd M = ((Wide Known M × Wide Base M) × Rights hd M) × AnswersAreMade (says_so hd) M
 
 -- ---- inside of an event
 
 -- tables show locks, and answers say what is so
 abbrev pub InEvent : Header → List Line → ℕ → Moment → Type 0
-InEvent hd before event M = (Tables hd before event M × Wide (Right hd) M) × AnswersAreMade (says_so hd) M
+InEvent hd before event M = (Tables hd before event M × Rights hd M) × AnswersAreMade (says_so hd) M
 
 module _ (hd : Header) (before : List Line) (event : ℕ) (early : (j : ℕ) → (event == up_of j before) ≡ false) where
   pub tables_step : KeepsSteps hd (Tables hd before event)
@@ -98,7 +103,7 @@ module _ (hd : Header) (before : List Line) (event : ℕ) (early : (j : ℕ) →
       (steps_both hd (Wide Known) (Wide (Showing hd (length before) event)) (let k = known_wide hd in k.steps)
       (wide_steps hd ⊤ (Showing hd (length before) event) (showing_kept hd (length before) event ⊤ tt))) (inside_step before event hd)
 
-  tells : Tells (λ M. Tables hd before event M × Wide (Right hd) M) (says_so hd)
+  tells : Tells (λ M. Tables hd before event M × Rights hd M) (says_so hd)
   tells k d t v from m h a r front M both there other meant asking new is =
       let known = both.0 in
       let s = known.0.1 in
@@ -112,19 +117,19 @@ module _ (hd : Header) (before : List Line) (event : ℕ) (early : (j : ℕ) →
       silent in
       served_says hd before event early k d t v from h r front (lines_behind M.past.number front M.seen.lines) shown.0 shown.1
       l.place (λ u none held. subst (λ es. may_be_pending k u (lines_behind M.past.number es M.seen.lines) ≡ true) (sym none)
-      (both.1.2.0.0.1 k n u (λ i. if same_number k i then Some (record { number = k; disk = d; live = Some t }) else M.seen.nodes k) held))
+      (both.1.1.1.2.1 k n u (λ i. if same_number k i then Some (record { number = k; disk = d; live = Some t }) else M.seen.nodes k) held))
       a new (λ x same none form. subst (λ es. may_store hd (lines_behind M.past.number es M.seen.lines) k x ≡ true) (sym none)
-      (let z = both.1.2.0.1.1 in z.loads (post from k m) h x (both.1.1 (post from k m) there)
+      (let z = both.1.0.2.0.1 in z.loads (post from k m) h x (both.1.0.1 (post from k m) there)
       (asking ∙ ap (λ y. Some (h, y)) same) form)) (λ x u same none held form.
       subst (λ es. IsEarly (lines_behind M.past.number es M.seen.lines) →
       has_changed (lines_behind M.past.number es M.seen.lines) u x ≡ true) (sym none)
-      (doubt_changed hd _ both.1.2.1 k n x u
+      (doubt_changed hd _ both.1.0.2.1 k n x u
       (λ i. if same_number k i then Some (record { number = k; disk = d; live = Some t }) else M.seen.nodes k) held form))
       served
 
   pub event_step : KeepsSteps hd (InEvent hd before event)
-  event_step = answers_step hd (says_so hd) (λ M. Tables hd before event M × Wide (Right hd) M)
-      (steps_both hd (Tables hd before event) (Wide (Right hd)) tables_step (let k = right_wide hd in k.steps))
+  event_step = answers_step hd (says_so hd) (λ M. Tables hd before event M × Rights hd M)
+      (steps_both hd (Tables hd before event) (Rights hd) tables_step (let k = rights_keep hd in k.steps))
       (λ M h. h.0.0.0) tells
 
 -- ---- events
@@ -261,7 +266,7 @@ module _ (hd : Header) (P : Moment → Type 0) (I : List Line → ℕ → Moment
                         (body.Limit which.Labels ∷ [])
                         (seen.with_sent b.0 M.seen) refl (shows (seen.with_sent b.0 M.seen) refl refl b.2)) in (b.0, b.1, (r.0, r.1))),
                   ),
-                  (let k = right_wide hd in (let q = k.steps in q.quiet (body.Limit which.Labels ∷ []) M refl c.0.1)),
+                  (let k = rights_keep hd in (let q = k.steps in q.quiet (body.Limit which.Labels ∷ []) M refl c.0.1)),
                 ),
                 made_later (says_so hd) M (said (body.Limit which.Labels ∷ []) M) (record {
                   more = numbered M.past.number (body.Limit which.Labels ∷ []);
@@ -358,7 +363,7 @@ module _ (hd : Header) (P : Moment → Type 0) (I : List Line → ℕ → Moment
                 ([], (λ p i. i), (let k = known_wide hd in k.first st formed)),
                 ([], (λ p i. i), (let s = first_showing hd 0 st formed in (s.0, s.1))),
               ),
-              ([], (λ p i. i), (let k = right_wide hd in k.first st formed)),
+              (let k = rights_keep hd in k.first st formed),
             ),
             first_made hd (says_so hd) st formed,
           ),

@@ -25,8 +25,8 @@ use Rattle.arj_law_cause.specs.rows.Says.{may_be_in_doubt}
 use Rattle.arj_promise.specs.Runs.{IsInForm, Run, journal_by}
 
 -- A store answered what was asked with a conflict, over a write, with an action that began, and isn't on the path of the one that asked. By
--- then that action had changed what was asked, the node may be a store of it, and a state may have been prepared there. But for at which
--- stops of the node one may have been, that is what `meets_at_store` says.
+-- then that action had changed what was asked, the node may be a store of it, and a state may have been prepared there. That is what
+-- `meets_at_store` says, but for stops of the node: here each counts where its home may have asked it by then, whatever the event is.
 abbrev pub came_from_store : Here → List ℕ → Uid → Mode → ℕ → Bool
 came_from_store h l u held n = same_mode held Write
     && (holds_in (λ a. true) (act_by h.lines u)
