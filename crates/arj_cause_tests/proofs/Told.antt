@@ -30,7 +30,7 @@ use Rattle.arj_cause_tests.proofs.Worked.{conflict, exclusion, inclusion, lost_l
 use Rattle.arj_cause_tests.proofs.Worked.{rebinding}
 use Rattle.arj_cause_tests.proofs.Worked.{stop_at_decision_done}
 use Rattle.arj_cause_tests.proofs.Rare.{aborted_conflict, aborted_lost, aborted_old, changed_bind_naming}
-use Rattle.arj_cause_tests.proofs.Rarer.{changed_bind_server, conflict_pending}
+use Rattle.arj_cause_tests.proofs.Rarer.{changed_bind_server, changed_inc_naming, changed_inc_server, conflict_pending}
 use Rattle.arj_cause_tests.proofs.WrongEvents.{begins, two_nodes}
 use Rattle.arj_cause_tests.proofs.WrongShows.{failing_from}
 
@@ -85,6 +85,16 @@ changed_order = refl
 
 changed_bound : failing answer_fits (instead 27 (body.Changed (l 68) 1 (difference.Bind (b 1 1) (b 2 2))) changed_bind_naming) ≡ 27 ∷ []
 changed_bound = refl
+
+-- a server was never in the new incarnation since the call, and naming neither
+changed_later : failing answer_fits (instead 18 (body.Changed (l 65) 2 (difference.Inc 1 3)) changed_inc_server) ≡ 18 ∷ []
+changed_later = refl
+
+changed_before : failing answer_fits (instead 18 (body.Changed (l 65) 2 (difference.Inc 2 1)) changed_inc_server) ≡ 18 ∷ []
+changed_before = refl
+
+naming_later : failing answer_fits (instead 27 (body.Changed (l 76) 1 (difference.Inc 1 3)) changed_inc_naming) ≡ 27 ∷ []
+naming_later = refl
 
 -- a store says a conflict: another one than loaded, and a lock that no store has
 stores_conflict : failing answer_fits (instead 47 (body.Conflict (l 66) (u 2 1 1) Write 4) conflict_pending) ≡ 47 ∷ []

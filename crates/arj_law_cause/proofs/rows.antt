@@ -9,9 +9,9 @@
 -- A call ends at its coordinator by the answer that it takes, or given up (`Ending`). There the action waits for what was asked
 -- last, and the answer was made in its span (`Taking`), under its path (`Paths`), where the journal's row finds it (`Spans`, `Rows`); what
 -- is given up says so before (`Giving`). An answer that finds something changed was made where that shows (`Differing`, `Starting`,
--- `Differences`). An include that loads was let go on by naming in its top's lock, whatever a coordinator does
--- (`Loading`), and each node (`Locked`). So each line of an event fits (`Lined`, `Asks`); and as what is accepted is what coordinators were
--- asked (`Accepting`), each line of a run (`Whole`).
+-- `Differences`), and no two incarnations of a server are named (`Machines`). An include that loads was let go on by naming in its top's
+-- lock, whatever a coordinator does (`Loading`), and each node (`Locked`). So each line of an event fits (`Lined`, `Asks`); and as what is
+-- accepted is what coordinators were asked (`Accepting`), each line of a run (`Whole`).
 pub mod Meeting
 pub mod Inside
 pub mod Holders
@@ -25,6 +25,7 @@ pub mod Running
 pub mod Starting
 pub mod Agreeing
 pub mod Ending
+pub mod Machines
 pub mod Taking
 pub mod Paths
 pub mod Spans

@@ -38,8 +38,9 @@ use Rattle.arj_law_cause.proofs.rows.Rows.{changed_so, conflict_so, included_so,
 use Rattle.arj_law_runs.specs.addresses.Binds.{StandsOn}
 use Words.{AtInvoke}
 use Rattle.arj_law_cause.proofs.rows.Locked.{LoadsAreLocked, own_of}
-use Rattle.arj_law_cause.proofs.rows.Taking.{AskedPaths, IsPathAt, Works, caller, full_reply, given as are_given, kept_binding, replied}
-use Rattle.arj_law_cause.proofs.rows.Taking.{off_called, stands_on, step_so, taken, told}
+use Rattle.arj_law_cause.proofs.rows.Taking.{AskedPaths, IsPathAt, Works, caller, full_reply, given as are_given, invoke_kept}
+use Rattle.arj_law_cause.proofs.rows.Taking.{kept_binding, live_kept}
+use Rattle.arj_law_cause.proofs.rows.Taking.{off_called, replied, stands_on, step_so, taken, told}
 use Rattle.arj_law_cause.proofs.waits.lost.Bound.{BoundFull, ReplyFull}
 use Rattle.arj_law_cause.proofs.waits.lost.Stored.{IsFull}
 use Rattle.arj_law_runs.proofs.journal.Beginning as Beginning
@@ -324,7 +325,10 @@ module _ (hd : Header) (st : Start) (before : List Line) (event : ℕ) where
               (taken hd k d t M W u w s found is from m there a r answer act waits) (sym begun) early.few
               (are_given hd k d t M W u w s found is) (told hd k d t M W u w s found is from m there a r answer act waits)
               (step_so hd k d t M W u w s found is) (kept_binding hd k d t M W u w s found is)
-              (replied hd k d t M W u w s found is from m there a r answer act waits) n x ends
+              (replied hd k d t M W u w s found is from m there a r answer act waits)
+              (λ o goal y i at. invoke_kept hd k d t M W u w s found is early o goal y i at)
+              (λ o goal avoid at b server i g stores live old first keeps has alike. live_kept hd k d t M W u w s found is from m there a r
+              answer act waits early o goal avoid at b server i g stores live old first keeps has alike) n x ends
           by (Lost n b) ends = absurd (none_full ends.0 (subst ReplyFull ends.1
               (full_reply hd k d t M W u w s found is from m there a r answer act waits)) ends.2)
 

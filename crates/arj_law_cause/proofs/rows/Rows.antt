@@ -50,7 +50,7 @@ use Rattle.arj_model.specs.Past.{Asked as AskedOf, label_of}
 use Rattle.arj_model.specs.Refusals.{answers_to, asks_by, has_ended, holds_of, last_asked, object_used}
 use Rattle.arj_model.specs.Table.{table}
 use Rattle.arj_law_cause.proofs.bindings.Active.{older_is}
-use Rattle.arj_law_cause.proofs.bindings.Asking.{BoundSo, IsAtSo, IsKeptSo, IsKnownSo, IsSaidSo, ReplySo}
+use Rattle.arj_law_cause.proofs.bindings.Asking.{BoundSo, IsAtSo, IsKeptSo, IsKnownSo, ReplySo}
 use Rattle.arj_law_cause.proofs.bindings.Copies.{active_by}
 use Rattle.arj_law_cause.proofs.bindings.Counted.{IsGiven}
 use Rattle.arj_law_cause.proofs.bindings.Lines.{IsLined}
@@ -380,7 +380,12 @@ module _ (hd : Header) (k : ℕ) (M : Moment) (h : Here) (header : h.header ≡ 
         (at_so : IsAtSo (IsLined M.seen.lines) (active_by M.seen.lines) (met_in M.seen.start M.seen.lines) s.x s.goal s.at)
         (keeps_so : IsKeptSo (IsLined M.seen.lines) (active_by M.seen.lines) (met_in M.seen.start M.seen.lines) s.x kept)
         (replied : (asked : Ask) × (bare asked ≡ next_ask [] s)
-        × ReplySo (IsLined M.seen.lines) (active_by M.seen.lines) (met_in M.seen.start M.seen.lines) from asked r) where
+        × ReplySo (IsLined M.seen.lines) (active_by M.seen.lines) (met_in M.seen.start M.seen.lines) from asked r)
+        (invoke_kept : (o : Op) → s.goal ≡ Run o → (y : Known) (i : ℕ) → s.at ≡ AtInvoke y i →
+        (old : Known) × (kept ≡ Some old) × (binding_number old.binding ≡ binding_number y.binding) × (old.inc ≡ Some i))
+        (live_kept : (o : Op) → s.goal ≡ Run o → (avoid : Binding) → s.at ≡ AtBind avoid → (b : Binding) (server i g : ℕ)
+        (stores : List ℕ) → r ≡ Reply.Bound (bound.Live b server i g stores) → (old : Known) (first : ℕ) → kept ≡ Some old →
+        old.inc ≡ Some first → binding_eq old.binding b ≡ true → first ≡ i) where
       -- its line fits
       abbrev Fits : ℕ → What → Type 0
       Fits n v = answer_fits h (body.Changed w.label n (differs v)) ≡ true
@@ -468,14 +473,12 @@ module _ (hd : Header) (k : ℕ) (M : Moment) (h : Here) (header : h.header ≡ 
 
       -- ---- incarnations
 
-      -- naming told of two
-      inc_told : (n first i : ℕ) (v : What) (o : Op) → s.goal ≡ Run o → v ≡ two_incs first i → naming_told h c.act q ≡ true → Fits n v
-      inc_told n first i v o goal two told = partly n v o goal (naming_tells n told)
-          (subst (λ y. may_differ h c.act q n s.x (differs y) ≡ true) (sym two) (by (nat_lt i first)))
-        where
-          by : (t : Bool) → may_differ h c.act q n s.x (differs (cond t (what.Inc i first) (what.Inc first i))) ≡ true
-          by true = or_first (naming_told h c.act q) (i == 0) told
-          by false = or_first (naming_told h c.act q) (first == 0) told
+      -- what the root keeps under the binding of a step is of its server
+      one_server : (old y : Known) → IsKnownSo (IsLined M.seen.lines) (active_by M.seen.lines) (met_in M.seen.start M.seen.lines) s.x old →
+          IsLined M.seen.lines s.x y.binding y.server → binding_eq old.binding y.binding ≡ true → old.server ≡ y.server
+      one_server old y ks lined same = (given.one s.x s.x y.binding old.server y.server
+          (subst (λ b. IsLined M.seen.lines s.x b old.server) (one_binding M.seen.start M.seen.lines given few s.x s.x old.binding y.binding
+          old.server y.server ks.0 lined same) ks.0) lined).1
 
       -- a server in another incarnation than the one that the root keeps took a copy
       activated_so : (x : Known) (u : ObjectState) (i : ℕ) (o : Op) (n : ℕ) (v : What) → s.goal ≡ Run o → s.at ≡ AtActivate x u →
@@ -500,12 +503,8 @@ module _ (hd : Header) (k : ℕ) (M : Moment) (h : Here) (header : h.header ≡ 
           lined : IsLined M.seen.lines s.x x.binding x.server
           lined = let k = step.0 in k.0
 
-          binding_same : old.binding ≡ x.binding
-          binding_same = one_binding M.seen.start M.seen.lines given few s.x s.x old.binding x.binding old.server x.server ks.0 lined same
-
           server : old.server ≡ x.server
-          server = (given.one s.x s.x x.binding old.server x.server
-              (subst (λ b. IsLined M.seen.lines s.x b old.server) binding_same ks.0) lined).1
+          server = one_server old x ks lined same
 
           -- both incarnations had a copy there
           met_first : IsActiveIn h.start h.lines from s.x old.binding first
@@ -569,7 +568,10 @@ module _ (hd : Header) (k : ℕ) (M : Moment) (h : Here) (header : h.header ≡ 
           told_it = server_told from frame.Invoked refl (ap (λ y. frame_kind (response a y)) is) refl
 
           by : (y : What) → v ≡ y → Fits from v
-          by (what.Inc had now) e = subst (λ z. Fits from z) (sym e) (named step.1)
+          by (what.Inc had now) e = subst (λ z. Fits from z) (sym e) (caused from (what.Inc had now) o goal told_it
+              (two_differ h q from s.x had now (let y = z.0 in y.binding) d.0 (met_here from (let y = z.0 in y.binding) had met)
+              (shown_at h q from s.x D.before D.after (lines ∙ D.are) D.late now
+              (ap (λ y. incarnation y D.before from) start ∙ d.1))))
             where
               d : Differs M.seen.start from s.x (what.Inc had now) D.before
               d = subst (λ z. Differs M.seen.start from s.x z D.before) e so.0
@@ -577,15 +579,19 @@ module _ (hd : Header) (k : ℕ) (M : Moment) (h : Here) (header : h.header ≡ 
               had_is : had ≡ i
               had_is = so.1 had now e
 
-              named : IsSaidSo (IsLined M.seen.lines) (active_by M.seen.lines) (met_in M.seen.start M.seen.lines) s.x x.binding x.server i →
-                  Fits from (what.Inc had now)
-              named (inl none) = partly from (what.Inc had now) o goal told_it
-                  (or_last (naming_told h c.act q) (had == 0) (eq-eqb had 0 (had_is ∙ none)))
-              named (inr met) = caused from (what.Inc had now) o goal told_it (two_differ h q from s.x had now x.binding d.0
-                  (met_here from x.binding had (subst (IsActiveIn M.seen.start M.seen.lines from s.x x.binding) (sym had_is)
-                  (subst (λ m. IsActiveIn M.seen.start M.seen.lines m s.x x.binding i) its_from (met few))))
-                  (shown_at h q from s.x D.before D.after (lines ∙ D.are) D.late now
-                  (ap (λ z. incarnation z D.before from) start ∙ d.1)))
+              z : (old : Known) × (kept ≡ Some old) × (binding_number old.binding ≡ binding_number x.binding) × (old.inc ≡ Some i)
+              z = invoke_kept o goal x i at
+
+              ks : IsKnownSo (IsLined M.seen.lines) (active_by M.seen.lines) (met_in M.seen.start M.seen.lines) s.x z.0
+              ks = subst (IsKeptSo (IsLined M.seen.lines) (active_by M.seen.lines) (met_in M.seen.start M.seen.lines) s.x) z.1 keeps_so
+
+              server : (let y = z.0 in y.server) ≡ from
+              server = one_server z.0 x ks (let y = step.0 in y.0)
+                  (eq-eqb (binding_number (let y = z.0 in y.binding)) (binding_number x.binding) z.2) ∙ its_from
+
+              met : IsActiveIn M.seen.start M.seen.lines from s.x (let y = z.0 in y.binding) had
+              met = subst (IsActiveIn M.seen.start M.seen.lines from s.x (let y = z.0 in y.binding)) (sym had_is)
+                  (subst (λ m. IsActiveIn M.seen.start M.seen.lines m s.x (let y = z.0 in y.binding) i) server (ks.1 i z.3 few))
           by (what.Bind had now) e = subst (λ z. Fits from z) (sym e) (caused from (what.Bind had now) o goal told_it
               (λ j. d.0 j && or_first (from_place h (let z = q in z.at) (had_both from s.x had now))
               ((from == 1) && (was_bound h.lines s.x had && (was_bound h.lines s.x now && list_any (cause.is_other_call q s.x) h.accepted)))
@@ -596,10 +602,11 @@ module _ (hd : Header) (k : ℕ) (M : Moment) (h : Here) (header : h.header ≡ 
 
       -- naming is of another incarnation than its grant
       noted_so : (x : Known) (i : ℕ) (o : Op) (n : ℕ) (v : What) → s.goal ≡ Run o → s.at ≡ AtNote x i →
-          r ≡ Reply.Noted (recorded.Changed v) → Fits n v
-      noted_so x i o n v goal at is = subst (λ z. Fits n z) (sym so.1) (partly n (what.Inc x.grant (incarnation M.seen.start D.before 1))
-          o goal
-          (naming_tells n told_it) (or_first (naming_told h c.act q) (x.grant == 0) told_it))
+          r ≡ Reply.Noted (recorded.Changed v) → n ≡ 1 → Fits n v
+      noted_so x i o n v goal at is one = subst (λ z. Fits n z) (sym so.1)
+          (partly n (what.Inc x.grant (incarnation M.seen.start D.before 1)) o goal (naming_tells n told_it)
+          (λ j. eq-eqb n 1 one j && (told_it j && (not (so.2 j) && shown_at h q 1 s.x D.before D.after (lines ∙ D.are) D.late
+          (incarnation M.seen.start D.before 1) (ap (λ z. incarnation z D.before 1) start) j))))
         where
           so : (from ≡ 1) × (v ≡ what.Inc x.grant (incarnation M.seen.start D.before 1))
               × ((x.grant == incarnation M.seen.start D.before 1) ≡ false)
@@ -618,7 +625,8 @@ module _ (hd : Header) (k : ℕ) (M : Moment) (h : Here) (header : h.header ≡ 
           other_so avoid (bound.Live b server i g stores) b server n v run.0 run.1 at is so.1 other
       changed_so n v (OnLive avoid b server i g stores at is (inr (old, first, keeps, same, its, has, off, two))) =
           let run = bound_to avoid (bound.Live b server i g stores) at is (λ so. so) in
-          inc_told n first i v run.0 run.1 two (bound_says avoid (bound.Live b server i g stores) at is)
+          let no_way : true ≡ false = sym (eq-eqb first i (live_kept run.0 run.1 avoid at b server i g stores is old first keeps has same))
+          ∙ off in absurd (cc no_way)
       changed_so n v (OnMake avoid b server g stores at is other) =
           let run = bound_to avoid (bound.Make b server g stores) at is (λ so. so) in
           let so = bound_reply avoid (bound.Make b server g stores) at is in
@@ -627,7 +635,7 @@ module _ (hd : Header) (k : ℕ) (M : Moment) (h : Here) (header : h.header ≡ 
           let run = only_run s.goal kept s.at (AtActivate x u) stands at (λ m off. off) in
           activated_so x u i run.0 n v run.1 at is other
       changed_so n v (OnNote x i at is one) =
-          let run = only_run s.goal kept s.at (AtNote x i) stands at (λ m off. off) in noted_so x i run.0 n v run.1 at is
+          let run = only_run s.goal kept s.at (AtNote x i) stands at (λ m off. off) in noted_so x i run.0 n v run.1 at is one
       changed_so n v (OnInvoke x i at is its) =
           let run = only_run s.goal kept s.at (AtInvoke x i) stands at (λ m off. off) in invoked_so x i run.0 n v run.1 at is its
 
@@ -732,7 +740,8 @@ module _ (hd : Header) (k : ℕ) (M : Moment) (h : Here) (header : h.header ≡ 
         λ j. (ap (conflict_caused h (name w.label) v m) its ∙ server_so x i v m at is) j || came_from_store h (name w.label) v m n
     conflict_so form early off v m n (ByStore x y rest at is write one) =
         let its : n ≡ from = one ∙ ap (λ z. node_at z) (sym at) ∙ T.node in
-        by (conflict_caused h (name w.label) v m n) (ap (came_from_store h (name w.label) v m) its ∙ store_so form early off x y rest v m at is write)
+        by (conflict_caused h (name w.label) v m n) (ap (came_from_store h (name w.label) v m) its ∙ store_so form early off x y rest v m
+            at is write)
       where
         by : (b : Bool) → came_from_store h (name w.label) v m n ≡ true → (b || came_from_store h (name w.label) v m n) ≡ true
         by true it = refl

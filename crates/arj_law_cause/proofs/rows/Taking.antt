@@ -46,7 +46,13 @@ use Rattle.arj_law_cause.proofs.bindings.Counted.{IsGiven}
 use Rattle.arj_law_cause.proofs.bindings.Lines.{IsLined}
 use Rattle.arj_law_cause.proofs.bindings.Said.{KnowsBindings}
 use Rattle.arj_law_cause.proofs.bindings.Since.{met_in}
+use Rattle.arj_law_cause.proofs.confirm.Reached.{Reached}
 use Rattle.arj_law_cause.proofs.rows.Differing.{differs_so, says_differs}
+use Rattle.arj_law_cause.proofs.rows.Machines
+use Rattle.arj_law_cause.specs.rows.Early.{IsEarly}
+use Words.{AtBind, AtInvoke, Op, Run, ask_at, binding_eq, binding_number, is_include}
+use Words.bound
+use Words.calls
 use Rattle.arj_law_cause.specs.rows.Says.{says_of, says_so}
 
 some_is : {A : Type 0} {a b : A} → Some a ≡ Some b → a ≡ b
@@ -85,6 +91,7 @@ pub record Works (hd : Header) (k : ℕ) (d : Disk) (t : Parts) (M : Moment) : T
   pub full : AnswersAreMade says_full (up k d t M)
   pub bindings : Wide KnowsBindings (up k d t M)
   pub differs : AnswersAreMade (differs_so M.seen.start) (up k d t M)
+  pub reached : Wide (Reached hd) (up k d t M)
   pub form : HeaderInForm hd
 
 -- The action that waits, in the journal's words: it's open, has one more asked than answered, and waits for that.
@@ -203,12 +210,14 @@ module _ (hd : Header) (k : ℕ) (d : Disk) (t : Parts) (M : Moment) (W : Works 
           none_of (Some x) e = absurd (cc e)
 
           opened : (b : Bool) → is_some (let c = branch.0 in c.ended) ≡ b → ⊥
-          opened true over = never (over_below (paths_of begun) tree t.coord.tree good.tree.lists good.tree.closed v branch.0 branch.1 over u
+          opened true over = never (over_below (paths_of begun) tree t.coord.tree good.tree.lists good.tree.closed v branch.0 branch.1
+              over u
               asking.branch asking.found over_path) asking.opened
           opened false open_yet = committing (let q = doing.0 in q.now) refl
             where
               now : is_committing_now (let q = doing.0 in q.now) ≡ true
-              now = sym (let n = knows.knows in n.calls v branch.0 doing.0 branch.1 doing.1 (none_of (let c = branch.0 in c.ended) open_yet))
+              now = sym (let n = knows.knows in n.calls v branch.0 doing.0 branch.1 doing.1 (none_of (let c = branch.0 in c.ended)
+                  open_yet))
                   ∙ called
 
               committing : (n : Now) → (let q = doing.0 in q.now) ≡ n → ⊥
@@ -340,6 +349,17 @@ module _ (hd : Header) (k : ℕ) (d : Disk) (t : Parts) (M : Moment) (W : Works 
   kept_binding = bindings.kept_of_call (IsLined M.seen.lines) (active_by M.seen.lines) (met_in M.seen.start M.seen.lines) s t.coord
       its_bindings
 
+  -- the object that it calls is seen by its lock machine
+  locked : (early : IsEarly M.seen.lines) → Machines.IsLocked hd W.form k d t M.seen W.reached.0 W.reached.2 early s.x
+  locked early = Machines.is_locked hd W.form k d t M.seen W.reached.0 W.reached.2 early s.x
+      (Machines.its_object hd W.form k d t M.seen W.reached.0 W.reached.2 early u w s found is)
+
+  -- an Invoke names the incarnation that the root keeps
+  pub invoke_kept : (early : IsEarly M.seen.lines) (o : Op) → s.goal ≡ Run o → (y : calls.Known) (i : ℕ) → s.at ≡ AtInvoke y i →
+      (old : calls.Known) × (kept_at s t.coord ≡ Some old) × (binding_number old.binding ≡ binding_number y.binding) × (old.inc ≡ Some i)
+  invoke_kept early o goal y i at = Machines.invoke_named hd W.form k d t M.seen W.reached.0 W.reached.2 early s.x (locked early) u w s o
+      asking.branch found is refl goal asking.found asking.path y i at
+
   -- bindings of the lines have small counts, above 0, and one server each
   pub given : IsGiven M.seen.start M.seen.lines
   given = W.bindings.2.0.1.1.0
@@ -442,6 +462,22 @@ module _ (hd : Header) (k : ℕ) (d : Disk) (t : Parts) (M : Moment) (W : Works 
         let z = p.answering a r answer in
         let o = of_step (W.bindings.0, W.bindings.1, W.bindings.2.0.0.0) z.head z.ask z.same z.request z.posted z.asking z.from in
         (z.ask, o.same, z.so)
+
+    -- a live binding that naming answers has the incarnation that the root keeps of it
+    pub live_kept : (early : IsEarly M.seen.lines) (o : Op) → s.goal ≡ Run o → (avoid : Binding) → s.at ≡ AtBind avoid → (c : Binding)
+        (server i g : ℕ) (stores : List ℕ) → r ≡ Reply.Bound (bound.Live c server i g stores) → (old : calls.Known) (first : ℕ) →
+        kept_at s t.coord ≡ Some old → old.inc ≡ Some first → binding_eq old.binding c ≡ true → first ≡ i
+    live_kept early o goal avoid at c server i g stores live old first keeps has same =
+        let l = locked early in
+        let within : seen.Within M.seen.sent l.more = λ p there. l.within p (W.reached.1 p there) in
+        let z = Machines.live_named hd W.form k d t M.seen W.reached.0 W.reached.2 early s.x (locked early) u w s o asking.branch found is
+            refl
+        goal asking.found asking.path from m a c server i g stores (within (post from k m) sent_it) (answer ∙ (λ j. Some (a, live j))) in
+        let step : IsOfStep s from z.0 z.1 = of_step (l.more, within, Machines.asked_known hd W.form k d t M.seen W.reached.0 W.reached.2
+            early
+        s.x (locked early)) z.0 z.1 z.5 (post k from z.2) z.3 z.4 refl in
+        z.6 (is_include s.goal) avoid (bind_is z.1 s.x (is_include s.goal) avoid (step.same ∙ (λ j. ask_at s.x s.goal [] (at j)))) old first
+        keeps has same
 
     -- it names some store, where it goes on to load
     pub full_reply : ReplyFull r

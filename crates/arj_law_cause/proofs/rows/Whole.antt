@@ -113,6 +113,7 @@ module _ (hd : Header) (form : HeaderInForm hd) (st : Start) where
     full = h.1.0.1.1.1.0.1;
     bindings = h.1.0.1.1.1.1.0.1;
     differs = subst (λ z. AnswersAreMade (differs_so z) (up k d t M)) (sym h.1.0.1.1.1.1.0.0) h.1.0.1.1.1.1.1;
+    reached = (h.0.0.1.0.0, h.0.0.1.0.1, h.0.0.1.0.2.1);
     form = form;
   }
 

@@ -15,11 +15,11 @@ use Rattle.arj_text.specs.Label.{name}
 use Rattle.arj_model.specs.Actions.{Act, uids}
 use Rattle.arj_model.specs.CauseAnswers.{was_told}
 use Rattle.arj_model.specs.CauseCopies.{is_older, was_bound}
-use Rattle.arj_model.specs.CauseSpans.{Here, act_by, answered, asks_so, here_at, holds_in, is_call, same_mode, was_sent}
+use Rattle.arj_model.specs.CauseSpans.{Here, act_by, answered, asks_so, from_place, here_at, holds_in, is_call, same_mode, was_sent}
 use Rattle.arj_model.specs.Past.{Asked, Past}
 use Rattle.arj_model.specs.Caused.{has_cause}
 use Rattle.arj_model.specs.Follows.{Runs}
-use Rattle.arj_model.specs.Refusals.{object_used}
+use Rattle.arj_model.specs.Refusals.{incarnation, object_used}
 use Rattle.arj_law_runs.specs.follow.Frames.{are_so, run_events}
 use Rattle.arj_law_cause.specs.rows.Says.{may_be_in_doubt}
 use Rattle.arj_promise.specs.Runs.{IsInForm, Run, journal_by}
@@ -37,9 +37,11 @@ came_from_store h l u held n = same_mode held Write
 abbrev pub naming_told : Here → Act → Asked → Bool
 naming_told h a k = (a.uid.node == 1) || was_sent h k.at 1 a.uid.node (frame.Bound ∷ frame.Recorded ∷ [])
 
--- Naming told of it. Or an incarnation of 0 is named, so none was known. Of bindings it made both, the older one first.
+-- Naming told of it, at its node: it was in the new incarnation since the call, and the other one isn't that; or it made both bindings, the
+-- older one first.
 abbrev pub may_differ : Here → Act → Asked → ℕ → ℕ → Difference → Bool
-may_differ h a k n x (difference.Inc had now) = naming_told h a k || (had == 0)
+may_differ h a k n x (difference.Inc had now) =
+    (n == 1) && (naming_told h a k && (not (had == now) && from_place h k.at (λ before. incarnation h.start before 1 == now)))
 may_differ h a k n x (difference.Bind had now) =
     (n == 1) && (naming_told h a k && (is_older had now && (was_bound h.lines x had && was_bound h.lines x now)))
 
@@ -49,7 +51,7 @@ may_have_changed h l n d =
     asks_so h l (λ a k. is_call k.event && (was_told h n a k && holds_in (λ x. may_differ h a k n x d) (object_used k.event)))
 
 -- A line that answers a call or an include as done has its cause; so has one that says what was lost, one that says a conflict, unless
--- a store said it, and one that says what changed, unless naming may have told of it.
+-- a store said it, and one that says what changed at a node, unless naming told of it at its own.
 abbrev pub answer_fits : Here → Body → Bool
 answer_fits h (body.Ok l x op answer) = has_cause h (body.Ok l x op answer)
 answer_fits h (body.Conflict l u held n) = has_cause h (body.Conflict l u held n) || came_from_store h (name l) u held n
