@@ -1,6 +1,6 @@
 -- What quiesces must not do: leave a call, an include or a commit waiting, as where a tick forgets one kind of request; lose a call; or say
--- that something is left to do where nothing is.
-use Rattle.std.specs.Prelude.{◌≡◌, ℕ, refl, ◌⊎◌, List, [], ◌∷◌, ◌++◌, true, false, Some, codes}
+-- that something is left to do where nothing is. Also how many frames an event must not send.
+use Rattle.std.specs.Prelude.{◌≡◌, ◌≤◌, ℕ, refl, ◌⊎◌, List, [], ◌∷◌, ◌++◌, true, false, Some, codes}
 use Rattle.std.proofs.Common.{arith, sym, ⊎_elim}
 use Rattle.arj_class.specs.declared.op.Op.TheVariants as op
 use Rattle.arj_class.specs.declared.value.Value.TheVariants as value
@@ -14,6 +14,7 @@ use Rattle.arj_journal.specs.declared.header.Header.{Header}
 use Rattle.arj_model.specs.Past.{Past, nothing_yet}
 use Rattle.arj_law_cause.specs.rounds.Alone.{AloneStep}
 use Rattle.arj_law_cause.specs.rounds.Quiesces.{Answers, IsWhole, QuiescesStep, SaysQuiet}
+use Rattle.arj_law_cause.specs.rounds.Sends.{SendsStep}
 use Rattle.arj_text.specs.Label.{name}
 use Rattle.arj_cause_tests.proofs.Words.{Wrote, b, end_from, l, nodes, object_line}
 use Rattle.arj_cause_tests.proofs.WrongEvents.{begins, two_nodes}
@@ -91,3 +92,39 @@ commit_waits s = never_on (sym (s refl (name (l 65)) refl refl))
 -- where there are two nodes they may
 two_wait : AloneStep two_nodes (end_from nothing_yet (begins ∷ [])) (event.Call (l 65) 1 (op.Add 1)) (body.Sent 1 1 2 frame.Bind ∷ [])
 two_wait two = let no_way : 2 ≡ 1 = two in absurd (omega (arith, no_way))
+
+-- ---- how many frames are sent
+
+abbrev two_binds : List Body
+two_binds = body.Sent 1 1 2 frame.Bind ∷ body.Sent 2 1 2 frame.Bind ∷ []
+
+-- a call sends no second one
+call_twice : SendsStep two_nodes (end_from nothing_yet (begins ∷ [])) (event.Call (l 65) 1 (op.Add 1)) two_binds → ⊥
+call_twice s = let no_way : 2 ≤ 1 = s in absurd (omega (arith, no_way))
+
+-- nor does an include
+include_twice : SendsStep two_nodes (end_from nothing_yet (begins ∷ [])) (event.Include (l 65) 1 2) two_binds → ⊥
+include_twice s = let no_way : 2 ≤ 1 = s in absurd (omega (arith, no_way))
+
+-- or whoever is asked
+abbrev binding : Past
+binding = end_from nothing_yet (begins ∷ (event.Call (l 65) 1 (op.Add 1), body.Sent 1 1 2 frame.Bind ∷ []) ∷ [])
+
+answer_twice : SendsStep two_nodes binding (event.Deliver (Number 1))
+    (body.Got 1 ∷ body.Sent 2 2 1 frame.Bound ∷ body.Sent 3 2 1 frame.Bound ∷ []) → ⊥
+answer_twice s = let no_way : 3 ≤ 2 = s in absurd (omega (arith, no_way))
+
+-- who begins sends none
+begin_once : SendsStep two_nodes (end_from nothing_yet (begins ∷ [])) (event.Begin (l 66) 1) (body.Sent 1 1 2 frame.Bind ∷ []) → ⊥
+begin_once s = let no_way : 1 ≤ 0 = s in absurd (omega (arith, no_way))
+
+-- One is sent, and one to answer it.
+call_once : SendsStep two_nodes (end_from nothing_yet (begins ∷ [])) (event.Call (l 65) 1 (op.Add 1)) (body.Sent 1 1 2 frame.Bind ∷ [])
+call_once = omega arith
+
+answer_once : SendsStep two_nodes binding (event.Deliver (Number 1)) (body.Got 1 ∷ body.Sent 2 2 1 frame.Bound ∷ [])
+answer_once = omega arith
+
+-- Of a commit nothing is said.
+commit_free : SendsStep two_nodes (end_from nothing_yet (begins ∷ [])) (event.Commit (l 65)) two_binds
+commit_free = tt

@@ -1,7 +1,8 @@
 -- What quiesces answer and leave, by the journal: limits (`Limits`), who is up and who waits at nodes as the journal has it (`Ties`), lines
 -- of a quiesce by themselves (`Journals`), each quiesce that nothing cuts short (`Answered`), a run event by event (`Walked`), the
--- stated round (`Rounds`), that a journal tells how nodes are (`Known`), and what is asked on one node (`Asking`, `Alone`): one call makes one
--- binding at most (`Chain`), a commit none (`Commits`), and what is bound is the last of its object (`Binds`).
+-- stated round (`Rounds`), that a journal tells how nodes are (`Known`), and what is asked on one node (`Asking`, `Alone`): one call
+-- makes one binding at most (`Chain`), a commit none (`Commits`), and what is bound is the last of its object (`Binds`). Also how many
+-- messages are sent by what is of a call (`Sends`), and how many frames by an event (`Framed`).
 pub mod Limits
 pub mod Ties
 pub mod Journals
@@ -14,3 +15,5 @@ pub mod Chain
 pub mod Commits
 pub mod Binds
 pub mod Alone
+pub mod Sends
+pub mod Framed

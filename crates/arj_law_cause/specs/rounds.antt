@@ -2,3 +2,4 @@ pub mod Quiesces
 pub mod Rounds
 pub mod Known
 pub mod Alone
+pub mod Sends

@@ -1,6 +1,7 @@
-// What quiesces and rounds answer and leave, by the events and the journal alone.
+// What quiesces and rounds answer and leave, and how many frames an event sends, by the events and the journal alone.
 ghost use Rattle.arj_law_cause.specs.rounds.Alone.{RunsAnswerAlone};
 ghost use Rattle.arj_law_cause.specs.rounds.Known.{RoundsLeaveAll, RunsAnswer, RunsAreKnown, RunsEndRounds};
+ghost use Rattle.arj_law_cause.specs.rounds.Sends.{RunsSendFew};
 
 /// In every run in form, wherever it begins and wherever disks stop, the journal tells how its nodes are: each action at work at a node that
 /// is up waits for what the journal has as unanswered, and whoever waits by it is at work; a node is up exactly where it is by its `up` and
@@ -31,4 +32,11 @@ pub fn rounds_end_quiet()
 /// event: behind it the action, if it didn't wait before, waits for nothing. It does nothing when it runs.
 pub fn asked_alone_is_answered()
     ensures runs { RunsAnswerAlone }
+{}
+
+/// In every run in form, wherever it begins and wherever disks stop, an event sends one frame at most by which an action calls or includes, or
+/// which delivers a request or an answer of a call or an include, or hands over bytes; and none by which an action begins, a frame is lost, a
+/// node crashes, a stop is armed, or an object is shown. It does nothing when it runs.
+pub fn calls_send_one_frame()
+    ensures runs { RunsSendFew }
 {}

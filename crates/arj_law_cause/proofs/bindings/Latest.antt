@@ -152,7 +152,7 @@ module _ (acts : List Action) (x : ℕ) (p : Path) (q : Named) (told : Uid → B
       own : u ≡ top_of p → HasLock u 2 q.rows
       own is = subst (λ w. HasLock w 2 q.rows) (sym is)
           (good.unrecorded (top_of p) m (ap (λ w. at_uid w q.made) (sym is) ∙ was) not_yet (owner_untold
-              (owners_of acts) told x p fits untold)).lock
+          (owners_of acts) told x p fits untold)).lock
 
       by : IsAskedFor x p (let o = c.named in o.rows) (let z = r.part in (let o = z.named in o.rows)) → HasLock u 2 q.rows
       by (inl is) = subst (HasLock u 2) (is ∙ ap (λ (o : Named). o.rows) same) lock
@@ -185,7 +185,7 @@ module _ (k e : ℕ) (t : Parts) (st : Start) (fs : List Effect) (plain : ArePla
             (fewer_latest ls n (put_back (let v = r.part in v.named) (let v = r.part in v.count))
             (fewer_put n x (let v = r.part in v.count) q (let v = r.part in v.named) there
             (light_fewer acts x p q (Words.is_on n.told) n.inc n.count fits untold (good x q there)
-                (record { named = q; count = n.count }) r refl light))
+            (record { named = q; count = n.count }) r refl light))
             old.1),
       )
 
@@ -233,8 +233,11 @@ module _ (k e : ℕ) (t : Parts) (st : Start) (fs : List Effect) (plain : ArePla
       is_latest : (ms : List Line) → AllBefore ms → (y : ℕ) (c : Binding) (z : ℕ) → IsLined ms y c z ⊎ (line ≡ body.Bound y c z) →
           IsBefore n.inc (n.count + 1) c
       is_latest ms gs y c z (inl before) = later c (gs y c z before)
-      is_latest ms gs y c z (inr same) = let one : b ≡ c = cc same in subst (IsBefore n.inc (n.count + 1)) one (inr (refl, least
-          (n.count + 1)))
+      is_latest ms gs y c z (inr same) = let one : b ≡ c = cc same in subst (IsBefore n.inc (n.count + 1)) one (inr (
+        refl,
+        least
+            (n.count + 1),
+      ))
         where
           least : (a : ℕ) → a ≤ a
           least a = omega arith
@@ -271,7 +274,7 @@ module _ (k e : ℕ) (t : Parts) (st : Start) (fs : List Effect) (plain : ArePla
               its : m.binding ≡ b
               its = ⊎_elim (λ own. ap (λ (g : Made). g.binding) (sym own.1))
                   (λ f. absurd (f.0 (one_top (owners_of acts) (Words.is_on n.told) x u (top_of p) 2 2
-                      (locked x p mode.Write q).rows fine.rows
+                  (locked x p mode.Write q).rows fine.rows
                   (fine.made u m found_o).0 fits.top two_two lock_o (asked_has (entry_row x p mode.Write) q.rows))))
                   (put_cases u (top_of p) new m q.made found_o)
 
@@ -325,7 +328,7 @@ made_before j t st ls names given n at y c s h = let o = names n at in
 module _ (e k : ℕ) (d : Disk) (t v : Parts) (from : ℕ) (m : Message) (outs : List Effect) (M : Seen) (known : KnowsNames (up k d t M))
     (held : ObjectsAreHeld (up k d t M)) (stands : HasLatest k t M.start M.lines)
     (there : seen.In (record { from = from; to = k; message = m }) M.sent) (meant : is_meant t m ≡ true) (is : handle k d t from m
-        ≡ Took v outs) where
+    ≡ Took v outs) where
   abbrev acts : List Action
   acts = held.0
 
@@ -364,7 +367,7 @@ module _ (e k : ℕ) (d : Disk) (t v : Parts) (from : ℕ) (m : Message) (outs :
       left : HasLatest k v M.start M.lines
       left p vp =
           let r = subst (LeftBy AllFewer k d t from fewer_itself notes confirming tells_so hellos) (sym (ap
-              (handle_ask k d t from m) at) ∙ is)
+          (handle_ask k d t from m) at) ∙ is)
           (message_leaves AllFewer k d t from fewer_itself notes confirming tells_so hellos m o off) p vp in
           let old = stands r.0 r.1 in (old.0, fewer_latest M.lines r.0 p r.2 old.1)
 
@@ -399,7 +402,7 @@ module _ (e k : ℕ) (d : Disk) (t v : Parts) (from : ℕ) (m : Message) (outs :
     found fresh (Some q) there_o = bind_due k e t M.start fs plain acts h.path x n named fits (untold_path h.path n fresh)
         (let g = objects n named in g.objects) q there_o d.names include avoid
         (subst Good ((λ i. cond (fresh i) (void n) (on_counted x at_it n (at_number x n.objects)))
-            ∙ (λ i. on_counted x at_it n (there_o i)))
+        ∙ (λ i. on_counted x at_it n (there_o i)))
         good_after x (let r = at_it (record { named = q; count = n.count }) in let w = r.part in w.named)
         (put_same x (let r = at_it (record { named = q; count = n.count }) in let w = r.part in w.named) n.objects))
         M.lines (before n named) stands

@@ -85,7 +85,7 @@ noted_turn x top b i o = by (is_binding b o.recorded)
   where
     made : (m : Made) (c : Bool) → (let v = (cond {A = Served Named RecordedReply} c (reply o recorded.Yes)
         (record { part = lowered x top (in_use top m i o); outs = Words.lower_lines x top o; reply = Some recorded.Yes })).part in v.turn)
-            ≡ o.turn
+        ≡ o.turn
     made m true = refl
     made m false = lowered_turn x top (in_use top m i o)
 

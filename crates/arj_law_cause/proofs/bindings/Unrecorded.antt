@@ -116,18 +116,18 @@ pass_less u action rows elsewhere h = by (came_by action rows h.0 (in_from h.0 (
         (old, c, ap (λ (q : Row). last_uid q.holder) (sym same) ∙ h.2, subst (λ (q : Row). 2 ≤ mode_code q.mode) same h.3)
     kept old c (Some s) some same =
         let f = in_find (λ (row : Row). is_row_of old.object action row && is_heir (before_last row.holder)
-            (last_uid old.holder)) s rows some in
+        (last_uid old.holder)) s rows some in
         let both = and_parts (is_row_of old.object action s) (is_heir (before_last s.holder) (last_uid old.holder)) f.1 in
         let heir = its_heir (before_last s.holder) (last_uid old.holder) both.1 in
         absurd (elsewhere s (in_to s rows f.0) (and_parts (uid_eq s.object old.object) (uid_eq
-            (last_uid s.holder) action) both.0).1 heir.0 heir.1
+        (last_uid s.holder) action) both.0).1 heir.0 heir.1
         (heir.2 ∙ ap (λ (q : Row). last_uid q.holder) (sym same) ∙ h.2))
 
     by : CameBy action rows h.0 → HasLock u 2 rows
     by (stayed old c off same) = kept old c (passing action old.object (last_uid old.holder) rows) refl same
     by (passed_on old c own heir parent none same) =
         absurd (elsewhere old c own heir parent (sym (heir_is old.holder heir parent).0 ∙ ap (λ (q : Row). last_uid q.holder) (sym same)
-            ∙ h.2))
+        ∙ h.2))
 
 -- a top is nobody's heir
 pub top_elsewhere : (owner : Owners) (u action : Uid) (rows : List Row) → ((r : Row) → Contains rows r → IsHolder owner r.holder) →

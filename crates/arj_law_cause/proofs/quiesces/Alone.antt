@@ -108,7 +108,7 @@ steps_left n i w k x = by (at_place n w.nodes) refl
         one : (b : Bool) → at_place k (cond b (done_step n (step w.header a i)
             (armed n (record arm { works = arm.works - count_works (step w.header a i).halting }) w))
             (halted_at n a (cut (arm.works - 1) arm.how (step w.header a i).halting a.disk) (disarmed n w))).nodes ≡ Some x →
-                IsLeft n i w k x
+            IsLeft n i w k x
         one true at = done a there at
         one false at = down a (record a {
           disk = (let c = cut (arm.works - 1) arm.how (step w.header a i).halting a.disk in c.disk);
@@ -218,7 +218,7 @@ module _ (hd : Header) (form : HeaderInForm hd) (front : Run hd) (m : Move) (p :
   abbrev pub NoneOvertaken : Input → ℕ → Node → Parts → Type 0
   NoneOvertaken i n b y = (there : at_place n (world_by hd front).nodes ≡ Some b) (live : b.live ≡ Some y) (home : IsHome y.coord) →
       NoneOver hd (world_by hd front) latest few n b y there live home (whole n (with_coord y (acts i
-          (let d = b.disk in d.intents) y.coord).part)
+      (let d = b.disk in d.intents) y.coord).part)
       (acts i (let d = b.disk in d.intents) y.coord).outs b.disk)
 
   -- ---- an input that asks something of the action with this label
@@ -232,7 +232,7 @@ module _ (hd : Header) (form : HeaderInForm hd) (front : Run hd) (m : Move) (p :
       (acts_so : (c : Coord) (intents : List (Uid × Intent)) (br : Branch) (b : Doing) → branch_named l c ≡ Some br →
       Acts (actor br.path) b c (acts i intents c))
       (none_so : (b : Node) (y : Parts) (br : Branch) → branch_named l y.coord ≡ Some br → AsksNode hd i →
-          refusal_up hd i y.coord ≡ None → n ≡ 1 →
+      refusal_up hd i y.coord ≡ None → n ≡ 1 →
       NoneOvertaken i n b y) where
     -- what the event leaves at a place
     abbrev Behind : ℕ → Node → Type 0
@@ -289,7 +289,7 @@ module _ (hd : Header) (form : HeaderInForm hd) (front : Run hd) (m : Move) (p :
       -- a step of the coordinator
       asked_here : (b : Node) (y : Parts) → k ≡ n → at_place n w.nodes ≡ Some b → b.live ≡ Some y → refusal_up hd i y.coord ≡ None →
           first_reason (reasons (event_of m) u) ≡ None → (q : Ran) → q ≡ whole n (with_coord y (acts i
-              (let e = b.disk in e.intents) y.coord).part)
+          (let e = b.disk in e.intents) y.coord).part)
           (acts i (let e = b.disk in e.intents) y.coord).outs b.disk → z ≡ (let h = q.here in h.parts) → Found
       asked_here b y same there up_it free none q is z_is = by d.now refl
         where
@@ -356,12 +356,12 @@ module _ (hd : Header) (form : HeaderInForm hd) (front : Run hd) (m : Move) (p :
           by Idle now = let no_way : false ≡ true = ap is_waiting_now (sym now) ∙ waits in absurd (cc no_way)
           by (Calling c) now = ⊎_elim (over c now) back
               (calls_left hd form w held n b y there up_it did (actor br.0.path) doing.0 does_so moves w.event walks only
-                  (place_of n b there)
+              (place_of n b there)
               a d c its_does now (next_of k x z a d c at live does now))
           by (Committing c) now =
               let j = left_at k x z a d c at live does now in
               back (commits_left hd form w held n b y there up_it did (actor br.0.path) doing.0 does_so moves w.event walks only
-                  (place_of n b there)
+              (place_of n b there)
               a d c j.0 its_does now j.1 j.2)
 
       -- the node's step
@@ -440,10 +440,10 @@ one_act [] a b apart i j same = absurd i
 one_act (x ∷ xs) a b apart (inl one) (inl two) same = sym one ∙ two
 one_act (x ∷ xs) a b apart (inl one) (inr j) same =
     let no_way : true ≡ false = sym (there_on xs b j) ∙ ap (has_act xs) (sym same ∙ ap (λ (z : Act). z.uid) (sym one))
-        ∙ apart.2 in absurd (cc no_way)
+    ∙ apart.2 in absurd (cc no_way)
 one_act (x ∷ xs) a b apart (inr i) (inl two) same =
     let no_way : true ≡ false = sym (there_on xs a i) ∙ ap (has_act xs) (same ∙ ap (λ (z : Act). z.uid) (sym two))
-        ∙ apart.2 in absurd (cc no_way)
+    ∙ apart.2 in absurd (cc no_way)
 one_act (x ∷ xs) a b apart (inr i) (inr j) same = one_act xs a b apart.3 i j same
 
 -- an action that isn't there is refused
@@ -469,26 +469,29 @@ module _ (hd : Header) (form : HeaderInForm hd) (front : Run hd) (m : Move) (p :
       (ap (λ e. happens e (let g = m.asked in g.arm) (counted (record (world_by hd front) { arms = m.falls }))) is)
       (λ a z. refl) (λ h a. refl) refl (λ none. tt) (λ c free. named_branch (call_reasons hd x o) c (branch_named l c) free)
       (λ c intents br b found. subst (λ g. Acts (actor br.path) b c (on_branch (λ f. asking_of.call f.path x o c) c g)) (sym found)
-          (called br x o b c))
+      (called br x o b c))
       (λ b y br found asks free one there live home. call_over hd (world_by hd front) (latest hd form front m p s on few_before_it alone)
       few_before_it (world_node l (counted (record (world_by hd front) { arms = m.falls }))) b y there live home l br found one x o asks
-          free)
+      free)
   found_by alone (event.Include l x n) is name_is asks_it = found_so hd form front m p s on few_before_it alone (input.Include l x n) l
       (world_node l (counted (record (world_by hd front) { arms = m.falls })))
       (ap (λ e. happens e (let g = m.asked in g.arm) (counted (record (world_by hd front) { arms = m.falls }))) is)
       (λ a z. refl) (λ h a. refl) refl
       (λ none. sym (ties.node_so hd form p (world_by hd front) s.all n) ∙ not_not (world_is n (record
-          (world_by hd front) { arms = m.falls }))
+      (world_by hd front) { arms = m.falls }))
       (first_not 1 (not (world_is n (record (world_by hd front) { arms = m.falls })))
-      ((5, not (is_known l (record (world_by hd front) { arms = m.falls }))) ∷ (6, was_given l (record
-          (world_by hd front) { arms = m.falls })) ∷ [])
+      ((5, not (is_known l (record (world_by hd front) { arms = m.falls }))) ∷ (
+        6,
+        was_given l (record
+            (world_by hd front) { arms = m.falls }),
+      ) ∷ [])
       (ap (λ e. first_reason (reasons e (record (world_by hd front) { arms = m.falls }))) (sym is) ∙ none)).0)
       (λ c free. named_branch (include_reasons hd x) c (branch_named l c) free)
       (λ c intents br b found. subst (λ g. Acts (actor br.path) b c (on_branch (λ f. asking_of.include f.path x n c) c g)) (sym found)
       (included br x n b c))
       (λ b y br found asks free one there live home. include_over hd (world_by hd front) (latest hd form front m p s on few_before_it alone)
       few_before_it (world_node l (counted (record (world_by hd front) { arms = m.falls }))) b y there live home l br found one x n asks
-          free)
+      free)
   found_by alone (event.Commit l) is name_is asks_it = found_so hd form front m p s on few_before_it alone (input.Commit l) l
       (world_node l (counted (record (world_by hd front) { arms = m.falls })))
       (ap (λ e. happens e (let g = m.asked in g.arm) (counted (record (world_by hd front) { arms = m.falls }))) is)
@@ -508,7 +511,7 @@ module _ (hd : Header) (form : HeaderInForm hd) (front : Run hd) (m : Move) (p :
       waiting : is_waiting (next p (event_of m) bodies) l ≡ true → ⊥
       waiting waits = before
           (found_by alone (event_of m) refl l asks_it work.number work.node work.parts work.there work.live work.act work.doing work.does
-              waits_now)
+          waits_now)
         where
           work : IsAtWork (moved m (world_by hd front)) l
           work = ties.at_work hd form (next p (event_of m) bodies) (moved m (world_by hd front)) after.all l waits
@@ -516,7 +519,7 @@ module _ (hd : Header) (form : HeaderInForm hd) (front : Run hd) (m : Move) (p :
           waits_now : is_waiting_now (let d = work.doing in d.now) ≡ true
           waits_now = now (let d = work.doing in d.now)
               (ties.at_node hd form (next p (event_of m) bodies) (moved m
-                  (world_by hd front)) after.all work.number work.node work.parts work.act work.doing
+              (world_by hd front)) after.all work.number work.node work.parts work.act work.doing
               work.there work.live work.does)
             where
               now : (g : Now) → IsAt (next p (event_of m) bodies).accepted (next p (event_of m) bodies).lines
@@ -526,7 +529,7 @@ module _ (hd : Header) (form : HeaderInForm hd) (front : Run hd) (m : Move) (p :
               now (Committing c) at = refl
               now Idle at =
                   let none : is_waiting (next p (event_of m) bodies) l ≡ false = ap (is_waiting (next p (event_of m) bodies))
-                      (sym work.label)
+                  (sym work.label)
                   ∙ (λ i. is_some (at.0 i) || at.1 i) in
                   let no_way : true ≡ false = sym waits ∙ none in absurd (cc no_way)
 
@@ -534,18 +537,18 @@ module _ (hd : Header) (form : HeaderInForm hd) (front : Run hd) (m : Move) (p :
           before b =
               let old = ties.its_act hd form p (world_by hd front) s.all b.0 b.1 b.2 work.act b.3 b.4 b.5 b.6 in
               let new = ties.its_act hd form (next p (event_of m) bodies) (moved m
-                  (world_by hd front)) after.all work.number work.node work.parts work.act
+              (world_by hd front)) after.all work.number work.node work.parts work.act
               work.doing work.there work.live work.does in
               let later : members.In old.0 (all_acts (next p (event_of m) bodies).lines) =
               subst (members.In old.0) (sym (acts-append [] p.lines (block (p.count + 1) bodies)))
               (still_there old.0 (all_acts p.lines) (block (p.count + 1) bodies) old.1) in
               let sound = its_sound (moved m (world_by hd front)).lines
               (let g = ties.base hd form (next p (event_of m) bodies) (moved m
-                  (world_by hd front)) after.all in let h = g.halts in h.holds.0.1.right) in
+              (world_by hd front)) after.all in let h = g.halts in h.holds.0.1.right) in
               let apart = subst (λ ls. AreDistinct (all_acts ls)) (sym (ties.same_lines hd form (next p (event_of m) bodies)
               (moved m (world_by hd front)) after.all)) sound.distinct in
               let same : old.0 ≡ new.0 = one_act (all_acts (next p (event_of m) bodies).lines) old.0 new.0 apart later new.1 (old.3
-                  ∙ sym new.3) in
+              ∙ sym new.3) in
               let label : name (let d = b.3 in d.label) ≡ l = sym old.2 ∙ ap (λ (z : Act). z.label) same ∙ new.2 ∙ work.label in
               let no_way : true ≡ false = sym (ties.waits_so hd form p (world_by hd front) s.all b.0 b.1 b.2 work.act b.3 b.4 b.5 b.6 b.7)
               ∙ ap (is_waiting p) label ∙ rests in cc no_way

@@ -223,7 +223,7 @@ overtaken_so hd form r k n t u d s there live does now over few =
         twice_bound (let w = world_by hd r in w.lines) s.x b over.binding made.server over.server c.0 over.line
         (older_is b over.binding (small b made.server c.0) (small over.binding over.server over.line)
         (ltb-true (binding_number b) (binding_number over.binding) (ap (λ (z : Binding). binding_less z over.binding) (sym same)
-            ∙ over.greater)))
+        ∙ over.greater)))
 
     by : (g : Goal) → s.goal ≡ g → (at : At) → IsToSettle at over.known → StandsOn g (kept_of s.x (root_at (root_of s.path) t.coord)) at →
         NamedAt M.sent (WasMade M) g s.path s.x at →
@@ -267,7 +267,7 @@ module _ (hd : Header) (form : HeaderInForm hd) (front : Run hd) (m : Move) (q :
         a.waits,
         ap (λ (y : Event). is_overtaken q.lines (Some y)) (g.2 ∙ ap (asks_goal g.0 x.x) o.1)
             ∙ ap (λ ls. is_bound_twice ls x.x) (ties.same_lines hd form q (moved m (world_by hd front)) after.all
-                ∙ ap (λ (z : World). z.lines) (sym longer_is)) ∙ o.2,
+            ∙ ap (λ (z : World). z.lines) (sym longer_is)) ∙ o.2,
       )
 
 -- ---- a quiesce that nothing cuts short
@@ -332,7 +332,7 @@ module _ (hd : Header) (form : HeaderInForm hd) (front : Run hd) (m : Move) (p :
           let o = runs_leave_overtaken hd form front m is goes_on still_up work.number (let t = work.parts in t.coord) work.act d
           (ties.node_there hd form q v after.all work.number work.node work.there) found work.does waits_now in
           let e = overtaken_so_far hd form front m q after few work.number work.node work.parts work.act d o.0 work.there work.live
-              work.does o.1 o.2 in
+          work.does o.1 o.2 in
           ap (λ k. is_overtaken q.lines (waits_for q.accepted q.lines k)) (sym work.label) ∙ ap (is_overtaken q.lines) e.1 ∙ e.2
 
       by : (x : Now) → d.now ≡ x → IsAt q.accepted q.lines d.label x → is_overtaken q.lines (waits_for q.accepted q.lines l) ≡ true
@@ -413,7 +413,7 @@ module _ (hd : Header) (form : HeaderInForm hd) (front : Run hd) (m : Move) (p :
           let a = at_of (see [] v) (work l waits).number o.still.coord o.still.found in
           let does = ap (doing_of (work l waits).act) a.same ∙ o.still.does in
           let x = overtaken_so_far hd form front m q after few (work l waits).number a.node a.parts
-              (work l waits).act o.still.doing o.steps a.found a.live does o.now o.overtaken in
+          (work l waits).act o.still.doing o.steps a.found a.live does o.now o.overtaken in
           let same : waits_for q.accepted q.lines l ≡ Some x.0 =
           ap (waits_for q.accepted q.lines) (sym (ap name o.still.label ∙ label)) ∙ x.1 in
           let one : x.0 ≡ e = waits_same p.accepted q.accepted p.lines q.lines l e x.0
@@ -435,7 +435,7 @@ module _ (hd : Header) (form : HeaderInForm hd) (front : Run hd) (m : Move) (p :
           by_abort : (why : Cause) × (b ≡ body.Aborted dk.label why) × (is_refusal why ≡ true) → list_any (answers_call l) bodies ≡ true
           by_abort r = off_on (is_committing p.lines (name dk.label))
               (ends_one p.start (p.accepted ++ Rattle.arj_model.specs.Past.asked_of p event.Quiesce ∷ []) p.lines
-                  (p.count + 1) bodies dk.label r.0
+              (p.count + 1) bodies dk.label r.0
               (refusal_ends dk.label r.0 r.2) its.late commits (subst (λ y. In y bodies) r.1 (there l waits h))) a.rests
 
       by : (x : Now) → dk.now ≡ x → IsAt p.accepted p.lines dk.label dk.now → Still l e

@@ -212,7 +212,7 @@ module _ (hd : Header) (form : HeaderInForm hd) where
     module _ (did : Did Coord) (u : Uid) (b : Doing) (found : doing_of u t.coord ≡ Some b)
         (moves : Moves 0 b.now u t.coord did.part did.outs) (e : ℕ)
         (walks : Walks P e n did.outs (Up P n (with_coord t did.part)) a.disk (see h.sent w)) (alone : (k : ℕ) → Of hd k →
-            k ≡ n) (of : Of hd n) where
+        k ≡ n) (of : Of hd n) where
       asked : Asked
       asked = record { act = u; req = 0 }
 
@@ -241,8 +241,12 @@ module _ (hd : Header) (form : HeaderInForm hd) where
       same_number = grind (arith, nat_tests)
 
       its_coord : coords (with_here n q.here (nodes_in w)) n ≡ Some (let p = q.here in let y = p.parts in y.coord)
-      its_coord = ap (λ x. coord_in (cond x (Some (record { number = n; disk = (let p = q.here in p.disk); live = Some
-          (let p = q.here in p.parts) }))
+      its_coord = ap (λ x. coord_in (cond x (Some (record {
+        number = n;
+        disk = (let p = q.here in p.disk);
+        live = Some
+            (let p = q.here in p.parts);
+      }))
           (at_place n w.nodes))) same_number
 
       -- the action waited before
@@ -275,7 +279,7 @@ module _ (hd : Header) (form : HeaderInForm hd) where
           by (inl o) (Asking from to x) = from_old o from x
           by (inl o) (Answering from to x) =
               let no_way : ◌≡◌ {A = Option (Asked × Reply)} (Some (_, x.reply)) None = sym x.is
-                  ∙ asks_no_answer (way.post).message o.head o.ask o.is in
+              ∙ asks_no_answer (way.post).message o.head o.ask o.is in
               absurd (cc no_way)
           by (inr sent) (Asking from to x) = never (to ∙ node) sent.1
           by (inr sent) (Answering from to x) = never to sent.1
@@ -365,11 +369,11 @@ top_commits : (path : Path) (intents : List (Uid × Intent)) (b : Doing) (c : Co
     (asking_of.commit_top path intents c)
 top_commits path intents b c = behind (actor path) b c (says (actor path) body.Committing c)
     (asking_of.moved_commit (actor path) (commit.start (plan_for path (asking_of.last_req (doing_of (actor path) c)) (root_at
-        (root_of path) c) c)) intents c)
+    (root_of path) c) c)) intents c)
     (commit_moves 0 b.now (actor path)
     (commit.start (plan_for path (asking_of.last_req (doing_of (actor path) c)) (root_at (root_of path) c) c)) intents c
     (votes b.now (actor path) (commit.servers_of (plan_for path (asking_of.last_req (doing_of (actor path) c)) (root_at
-        (root_of path) c) c))
+    (root_of path) c) c))
     (plan_for path (asking_of.last_req (doing_of (actor path) c)) (root_at (root_of path) c) c) refl))
 
 pub committed : (br : Branch) (intents : List (Uid × Intent)) (b : Doing) (c : Coord) → Acts (actor br.path) b c

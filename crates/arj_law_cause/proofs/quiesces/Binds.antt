@@ -116,7 +116,7 @@ module _ (hd : Header) (w : World) (held : Holds hd KnowsLatest w) (few : HasFew
   module _ (i : Input) (about : is_act i ≡ true) (asks_it : AsksNode hd i) (free : refusal_up hd i y.coord
       ≡ None) (x : ℕ) (g : Goal) (h : Head)
       (avoid : Binding) (outs : (acts i (let d = a.disk in d.intents) y.coord).outs ≡ Send 1 (request h (ask.Bind x
-          (is_include g) avoid)) ∷ []) where
+      (is_include g) avoid)) ∷ []) where
     v : Parts
     v = with_coord y (acts i (let d = a.disk in d.intents) y.coord).part
 
@@ -132,13 +132,13 @@ module _ (hd : Header) (w : World) (held : Holds hd KnowsLatest w) (few : HasFew
         (walk_end KnowsLatest w.event n (acts i (let d = a.disk in d.intents) y.coord).outs
         (Rattle.arj_law_parts.specs.moves.Walks.Up KnowsLatest n (with_coord y (acts i (let d = a.disk in d.intents) y.coord).part)) a.disk
         (see held.sent w) (let k = keeps_asked hd KnowsLatest (latest_keep hd) in k.act w.event n a.disk y i
-            (see held.sent w) about asks_it free here))
+        (see held.sent w) about asks_it free here))
 
     its_node : (let S = up n a.disk (with_coord y (acts i (let d = a.disk in d.intents) y.coord).part) M in S.nodes n)
         ≡ Some (record { number = n; disk = a.disk; live = Some (with_coord y (acts i (let d = a.disk in d.intents) y.coord).part) })
     its_node = λ j. cond (same_number n j)
         (Some (record { number = n; disk = a.disk; live = Some (with_coord y (acts i (let d = a.disk in d.intents) y.coord).part) }))
-            (M.nodes n)
+        (M.nodes n)
 
     was_held : ObjectsAreHeld (up n a.disk (with_coord y (acts i (let d = a.disk in d.intents) y.coord).part) M)
     was_held = known.0.1
@@ -220,7 +220,7 @@ module _ (hd : Header) (w : World) (held : Holds hd KnowsLatest w) (few : HasFew
             ≡ on_counted x (bind_named o.inc x h.path (is_include g) avoid (listed_entry x (let d = a.disk in d.names))) o (Some q)
         bind_is = (λ j. cond (fresh j) (void o)
             (on_counted x (bind_named o.inc x h.path (is_include g) avoid (listed_entry x (let d = a.disk in d.names))) o
-                (at_number x o.objects)))
+            (at_number x o.objects)))
             ∙ (λ j. on_counted x (bind_named o.inc x h.path (is_include g) avoid (listed_entry x (let d = a.disk in d.names))) o (found j))
 
         said_in : (c : Binding) (s : ℕ) → Says c s → members.In (Say (body.Bound x c s)) r.outs
@@ -256,7 +256,7 @@ module _ (hd : Header) (w : World) (held : Holds hd KnowsLatest w) (few : HasFew
         newest is c s (inr z) = by (either (lock_lines x h.path mode.Write q) (Say (body.Bound x
             (record { inc = o.inc; count = o.count + 1 })
             (next_server q.turn (let k = e_entry in k.servers))) ∷ []) (subst (λ (k : Served Counted BoundReply). members.In (Say
-                (body.Bound x c s)) k.outs) is (said_in c s z)))
+            (body.Bound x c s)) k.outs) is (said_in c s z)))
           where
             either : (xs ys : List Effect) → members.In (Say (body.Bound x c s)) (xs ++ ys) →
                 members.In (Say (body.Bound x c s)) xs ⊎ members.In (Say (body.Bound x c s)) ys
@@ -269,7 +269,7 @@ module _ (hd : Header) (w : World) (held : Holds hd KnowsLatest w) (few : HasFew
 
             by : members.In (Say (body.Bound x c s)) (lock_lines x h.path mode.Write q) ⊎ members.In (Say (body.Bound x c s))
                 (Say (body.Bound x (record { inc = o.inc; count = o.count + 1 }) (next_server q.turn
-                    (let k = e_entry in k.servers))) ∷ []) →
+                (let k = e_entry in k.servers))) ∷ []) →
                 binding_less (record { inc = o.inc; count = o.count + 1 }) c ≡ false
             by (inl j) = absurd (unsaid (lock_lines x h.path mode.Write q) (locks_plain x h.path mode.Write q) c s j)
             by (inr (inl same)) = let one : record { inc = o.inc; count = o.count + 1 } ≡ c = cc same in
@@ -292,9 +292,9 @@ module _ (hd : Header) (w : World) (held : Holds hd KnowsLatest w) (few : HasFew
                 r.reply ≡ Some (bound.Make k s j ss) → Greatest k
             new same k s j ss reply =
                 let made : bound.Make (record { inc = o.inc; count = o.count + 1 }) (next_server q.turn
-                    (let k = e_entry in k.servers)) o.inc
+                (let k = e_entry in k.servers)) o.inc
                 (let k = e_entry in k.stores) ≡ bound.Make k s j ss = some_is (sym (ap (λ
-                    (z : Served Counted BoundReply). z.reply) same) ∙ reply) in
+                (z : Served Counted BoundReply). z.reply) same) ∙ reply) in
                 let one : record { inc = o.inc; count = o.count + 1 } ≡ k = cc made in subst Greatest one (newest same)
 
             by : (b : BoundReply) → r.reply ≡ Some b → ReplyFine Waited x g Greatest (Reply.Bound b)
@@ -306,7 +306,7 @@ module _ (hd : Header) (w : World) (held : Holds hd KnowsLatest w) (few : HasFew
                 include_of true is_it = is_it
                 include_of false is_it = absurd (call_binds o.inc x h.path avoid e_entry counted j ss
                     (subst (λ z. (let k = bind_named o.inc x h.path z avoid e_entry counted in k.reply)
-                        ≡ Some (bound.Write j ss)) is_it same))
+                    ≡ Some (bound.Write j ss)) is_it same))
             by (bound.Live k s j m ss) same = tt
             by (bound.Conflict k m) same = tt
 
@@ -323,16 +323,16 @@ module _ (hd : Header) (w : World) (held : Holds hd KnowsLatest w) (few : HasFew
               Answer (naming.bind h.path x (is_include g) avoid (let d = a.disk in d.names) o)
           by_object fresh None none = subst Answer (sym ((λ j. cond (fresh j) (void o)
               (on_counted x (bind_named o.inc x h.path (is_include g) avoid (listed_entry x (let d = a.disk in d.names))) o
-                  (at_number x o.objects)))
+              (at_number x o.objects)))
               ∙ (λ j. on_counted x (bind_named o.inc x h.path (is_include g) avoid (listed_entry x (let d = a.disk in d.names))) o
-                  (none j))))
+              (none j))))
               (λ b is. none_is is)
           by_object fresh (Some q) found = answer_whole q found fresh
 
           by : (b : Bool) → is_over h.path o ≡ b → Answer (naming.bind h.path x (is_include g) avoid (let d = a.disk in d.names) o)
           by true over = subst Answer (sym (λ j. cond (over j) (void o)
               (on_counted x (bind_named o.inc x h.path (is_include g) avoid (listed_entry x (let d = a.disk in d.names))) o
-                  (at_number x o.objects))))
+              (at_number x o.objects))))
               (λ b is. none_is is)
           by false fresh = by_object fresh (at_number x o.objects) refl
 
@@ -343,7 +343,7 @@ module _ (hd : Header) (w : World) (held : Holds hd KnowsLatest w) (few : HasFew
     binds_end fine one = subst (λ es. EndFine Waited x g Greatest n Says
         (whole n (with_coord y (acts i (let d = a.disk in d.intents) y.coord).part) es a.disk)) (sym outs)
         (whole_bind Waited x g Greatest n Says h (is_include g) avoid (with_coord y (acts i
-            (let d = a.disk in d.intents) y.coord).part) a.disk fine
+        (let d = a.disk in d.intents) y.coord).part) a.disk fine
         (λ o at. (answers_so o at, λ c s j. (o, at, j))) 1 (own n one))
       where
         own : (k : ℕ) → k ≡ 1 → (1 == k) ≡ true
@@ -364,7 +364,7 @@ module _ (hd : Header) (w : World) (held : Holds hd KnowsLatest w) (few : HasFew
       said : c.x ≡ x → IsSaid w.lines (body.Bound x over.binding over.server) ⊎ S over.binding over.server
       said same = ⊎_elim (λ line. inl line) (λ line. inr (fine.1 over.binding over.server line))
           (subst (λ z. IsSaid w.lines (body.Bound z over.binding over.server) ⊎ members.In (Say
-              (body.Bound z over.binding over.server)) q.outs) same over.line)
+          (body.Bound z over.binding over.server)) q.outs) same over.line)
 
       never : (k : Known) → k ≡ over.known → G k.binding → c.x ≡ x → ⊥
       never k same good on =
@@ -390,18 +390,18 @@ module _ (hd : Header) (w : World) (held : Holds hd KnowsLatest w) (few : HasFew
   -- a call or an include
   pub start_over : (i : Input) → is_act i ≡ true → AsksNode hd i → refusal_up hd i y.coord ≡ None → n ≡ 1 →
       (p : Path) (x : ℕ) (g : Goal) (avoid : Binding) (req : ℕ) (c : Coord) → ((v : Uid) → doing_of v c ≡ doing_of v y.coord) →
-          (known : Option Known) →
+      (known : Option Known) →
       acts i (let d = a.disk in d.intents) y.coord ≡ goes_on (start p x g known avoid req) c →
       NoneOver (whole n (with_coord y (acts i (let d = a.disk in d.intents) y.coord).part) (acts i
-          (let d = a.disk in d.intents) y.coord).outs a.disk)
+      (let d = a.disk in d.intents) y.coord).outs a.disk)
   start_over i about asks_it free one p x g avoid req c same None is =
       none_over x g (Greatest i about asks_it free x g h avoid outs) (Says i about asks_it free x g h avoid outs) (λ b good. good)
       (whole n (with_coord y (acts i (let d = a.disk in d.intents) y.coord).part) (acts i
-          (let d = a.disk in d.intents) y.coord).outs a.disk)
+      (let d = a.disk in d.intents) y.coord).outs a.disk)
       (binds_end i about asks_it free x g h avoid outs
       (subst (λ (z : Did Coord). CoordFine Waited x g (Greatest i about asks_it free x g h avoid outs) z.part) (sym is)
       (goes_fine Waited x g (Greatest i about asks_it free x g h avoid outs) (start p x g None avoid req) c (actor p) refl (inr
-          (refl, refl, tt))
+      (refl, refl, tt))
       (λ u q s does now. waited_fine x g (Greatest i about asks_it free x g h avoid outs) u q s (sym (same u) ∙ does) now))) one)
     where
       h : Head
@@ -414,9 +414,11 @@ module _ (hd : Header) (w : World) (held : Holds hd KnowsLatest w) (few : HasFew
       (with_coord y z.part) z.outs a.disk)) (sym is)
       (calm_over x g (goes_on (start p x g (Some k) avoid req) c)
       (goes_fine Waited x g (λ b. ⊥) (start p x g (Some k) avoid req) c (actor p) refl (inr (refl, refl, tt))
-      (λ u q s does now. waited_fine x g (λ b. ⊥) u q s (sym (same u) ∙ does) now))
-      (calm_ask (record { path = p; req = req }) (Words.next_ask (Words.ends_of (Words.root_of p) (let t = c.tree in t)) (start p x g
-          (Some k) avoid req)) refl, tt))
+      (λ u q s does now. waited_fine x g (λ b. ⊥) u q s (sym (same u) ∙ does) now)) (
+        calm_ask (record { path = p; req = req }) (Words.next_ask (Words.ends_of (Words.root_of p) (let t = c.tree in t)) (start p x g
+            (Some k) avoid req)) refl,
+        tt,
+      ))
 
   -- a commit
   pub commit_over : (br : Words.Branch) (did : Did Coord) → did ≡ Words.commit_action br (let d = a.disk in d.intents) y.coord →

@@ -252,7 +252,7 @@ module _ (W : Uid → Type 0) (x : ℕ) (g : Goal) (G : Binding → Type 0) wher
           (λ same. ended_fine (actor p.path) ending.Commit c all u same.1 s same.2 (ap (λ (d : Doing). d.now) same.3 ∙ calling))
           (λ other. ended_fine (actor p.path) ending.Commit c all u e s other.1 calling)
           (on_cases (actor p.path) (λ (d : Doing). record d { took = commit.participants p }) (ended
-              (actor p.path) ending.Commit c) u e there)
+          (actor p.path) ending.Commit c) u e there)
 
       by : (b : Bool) → doing_of u (let z = on_root (root_of p.path) (root_after p) (on_doing (actor p.path) (λ (d : Doing).
           record d { took = commit.participants p }) (ended (actor p.path) ending.Commit c)) in cond b (record z {
@@ -306,7 +306,7 @@ module _ (W : Uid → Type 0) (x : ℕ) (g : Goal) (G : Binding → Type 0) wher
         where
           one : (b : Bool) → CoordFine
               (cond {A = Served Coord (Unit {0})} b (heard_by (moved_commit a.act (commit.answered from m r) intents c))
-                  (heard_none c)).part
+              (heard_none c)).part
           one true = commit_fine a.act (commit.answered from m r) intents c all
           one false = all
 
@@ -354,7 +354,7 @@ module _ (W : Uid → Type 0) (x : ℕ) (g : Goal) (G : Binding → Type 0) wher
     naming_good : {R : Type 0} (h : Head) (say : R → Reply) (f : Naming → Served Naming R) (o : Option Naming) → ((m : Naming) →
         AllOther (f m).outs) →
         ((y : R) → is_other (Send from (response (asked_by h) (say y))) ≡ true) → GoodBy (if_naming (λ m. Words.served from h
-            (with_naming t) say (f m)) o)
+        (with_naming t) say (f m)) o)
     naming_good h say f None others each = refl
     naming_good h say f (Some m) others each = served_good h (with_naming t) say (f m) all (others m) each
 
@@ -397,7 +397,7 @@ module _ (W : Uid → Type 0) (x : ℕ) (g : Goal) (G : Binding → Type 0) wher
     asked_good h (ask.Confirm grants excluded included) none = naming_good h Reply.Confirmed
         (confirm h.path grants excluded included d.names) t.naming
         (λ m. naming_other (let r = confirm h.path grants excluded included d.names m in r.outs)
-            (confirm_own h.path grants excluded included d.names m))
+        (confirm_own h.path grants excluded included d.names m))
         (λ y. refl)
 
     coord_good : (r : Served Coord (Unit {0})) → CoordFine r.part → AllOther r.outs → GoodBy (coord_heard t r)
@@ -621,7 +621,7 @@ module _ (W : Uid → Type 0) (x : ℕ) (g : Goal) (G : Binding → Type 0) wher
       rounds_fine zero r fine queue outs = (fine, outs)
       rounds_fine (suc j) r fine queue outs = by r.queue (rounds_fine j (next_round n r) next.0 next.1
           (λ b s i. ⊎_elim (λ a. outs b s a) (λ c. absurd (next.2 b s c)) (either_in r.outs (handle_all n r.queue r.here).outs (Say
-              (body.Bound x b s)) i)))
+          (body.Bound x b s)) i)))
         where
           next : RanFine (handle_all n r.queue r.here)
           next = all_fine r.queue r.here fine queue
@@ -648,7 +648,7 @@ module _ (W : Uid → Type 0) (x : ℕ) (g : Goal) (G : Binding → Type 0) wher
           EndFine (whole n t (Send to m ∷ []) d)
       whole_one t d to m same fine none answers_fine = whole_from t d to m same
           (rounds_fine most_rounds (record { here = record { disk = d; parts = t }; outs = []; queue = m ∷ [] }) fine queue
-              (λ b s i. absurd i))
+          (λ b s i. absurd i))
         where
           queue : QueueFine (m ∷ [])
           queue k (inl is) = (ap binds (sym is) ∙ none, subst (λ z. AnswerFine (answers z)) is answers_fine)
@@ -669,7 +669,7 @@ module _ (W : Uid → Type 0) (x : ℕ) (g : Goal) (G : Binding → Type 0) wher
         unsent [] m own i = absurd i
         unsent (e ∷ es) m own (inl is) =
             let no_way : false ≡ true = ap is_naming_effect (sym is) ∙ (and_parts (is_naming_effect e)
-                (list_all is_naming_effect es) own).0 in cc no_way
+            (list_all is_naming_effect es) own).0 in cc no_way
         unsent (e ∷ es) m own (inr i) = unsent es m (and_parts (is_naming_effect e) (list_all is_naming_effect es) own).1 i
 
         answered_first : (o : Naming) → t.naming ≡ Some o → (y : Option BoundReply) →

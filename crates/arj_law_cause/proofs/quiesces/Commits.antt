@@ -83,7 +83,7 @@ calm_decide : (p : Plan) (c : Coord) → AreCalm (decide p c).outs
 calm_decide p c = calm_both (Words.record_work (actor p.path) p ++ Words.says (actor p.path) body.Committed c)
     (map (Words.decided_told (root_of p.path) (actor p.path) p) p.sent)
     (calm_both (Words.record_work (actor p.path) p) (Words.says (actor p.path) body.Committed c) (work (commit.has_record p)) (calm_says
-        (actor p.path) body.Committed c))
+    (actor p.path) body.Committed c))
     (every_map IsCalm (Words.decided_told (root_of p.path) (actor p.path) p) p.sent (λ n. told (has (commit.participants p) n) n))
   where
     work : (b : Bool) → AreCalm (cond b (Do (Words.PutIntent (actor p.path)
@@ -99,7 +99,7 @@ calm_decide p c = calm_both (Words.record_work (actor p.path) p ++ Words.says (a
 calm_moved : (u : Uid) (m : Marked) (intents : List (Uid × Intent)) (c : Coord) → AreCalm (moved_commit u m intents c).outs
 calm_moved u m intents c = calm_both (mark_lines u m.marks c) (step_commit u m.step intents c).outs
     (every_flat IsCalm (λ (k : ℕ × ℕ). Words.says u (λ l. body.Excluded l k.0 k.1) c) m.marks (λ k. calm_says u
-        (λ l. body.Excluded l k.0 k.1) c)) (by m.step)
+    (λ l. body.Excluded l k.0 k.1) c)) (by m.step)
   where
     by : (n : Words.CommitStep) → AreCalm (step_commit u n intents c).outs
     by (Stays k) = tt
@@ -145,7 +145,7 @@ module _ (br : Words.Branch) (intents : List (Uid × Intent)) (c : Coord) where
 
       by : (b : Bool) (k : Words.Kind) →
           CoordFine W x g G (cond b (Words.aborts_with (actor br.path) Words.cause.Doomed intents c)
-              (Words.commit_open br intents c k)).part
+          (Words.commit_open br intents c k)).part
       by true k = ended_fine W x g G (actor br.path) ending.Abort c all
       by false k = open_one k
 

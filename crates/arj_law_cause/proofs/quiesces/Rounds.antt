@@ -136,10 +136,10 @@ module _ (hd : Header) (form : HeaderInForm hd) (p : Past) (v : World) (s : Kept
     up_given =
         let a = its.0 in
         let waits_for_it : is_waiting p a.label ≡ true = ap (is_waiting p) its.2 ∙ ties.waits_so hd form p v s.all k n t u q there live
-            does waits in
+        does waits in
         let some : list_any (λ (d : Did). gives_up a.label d.event) ds ≡ true = open_it (is_waiting p a.label) _ waits_for_it
         (ties.all_there (λ (a : Act). not (is_waiting p a.label) || list_any (λ (d : Did). gives_up a.label d.event) ds)
-            (acts p.lines) a its.1 all) in
+        (acts p.lines) a its.1 all) in
         let d = some_in (λ (d : Did). gives_up a.label d.event) ds some in
         let g = gives_is a.label (let z = d.0 in z.event) d.2 in
         let x = move_of gs ds same d.0 d.1 in
@@ -268,7 +268,7 @@ module _ (hd : Header) (form : HeaderInForm hd) where
           two = quiet_at longer (all_moved g.done (moved m (world_by hd front))) longer_is n p2 second.bodies z.0 z.1 z.3
               (subst (λ e. Kept hd form (next p2 e second.bodies) (moved n (all_moved g.done (moved m (world_by hd front))))) z.2
               (walked.kept_first hd form left (next p2 second.event second.bodies) (moved n (all_moved g.done (moved m
-                  (world_by hd front)))) rest z.4))
+              (world_by hd front)))) rest z.4))
               (subst (λ e. IsWhole hd p2 e second.bodies) z.2 round.second_whole)
 
           who : AreGivenUp g.done (moved m (world_by hd front)) ⊎ NobodyWaits (all_moved g.done (moved m (world_by hd front)))

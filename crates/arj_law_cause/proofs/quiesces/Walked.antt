@@ -132,7 +132,7 @@ module _ (hd : Header) (form : HeaderInForm hd) where
       by true over rest =
           let o = over_stays (m ∷ ms) w over in
           none_run (m ∷ ms) p w [] s (inr (still_over (m ∷ ms) w over)) (λ i. cond (over i) [] (cond ((moved m w).event == w.event) []
-              (event_of m ∷ ran ms (moved m w))))
+          (event_of m ∷ ran ms (moved m w))))
           (o.0 ∙ sym (append-nil w.lines)) o.1 tt
       by false on rest = went on rest (joined.goes hd form m p w stops.0 s.all on)
 
@@ -162,7 +162,7 @@ module _ (hd : Header) (form : HeaderInForm hd) where
   -- what each event leaves and what it wrote holds along the run
   pub along : (Step : Past → Event → List Body → Type 0) (st : Start) (formed : IsFormed hd st) →
       ((front : Run hd) (m : Move) (p : Past) (bodies : List Body) → HasFewBindings (moved m (world_by hd front)).lines →
-          Kept hd form p (world_by hd front) →
+      Kept hd form p (world_by hd front) →
       (let x = world_by hd front in x.over) ≡ false → joined.Said hd form p (event_of m) bodies →
       Kept hd form (next p (event_of m) bodies) (moved m (world_by hd front)) → Step p (event_of m) bodies) →
       (front : Run hd) (ds : List Did) (ms : List Move) (p : Past) → length front.moves + length ms ≤ most_events →
@@ -172,7 +172,7 @@ module _ (hd : Header) (form : HeaderInForm hd) where
   along Step st formed gives front (d ∷ ds) (m ∷ ms) p short walked =
       let on : IsWalked ms (next p d.event d.bodies) (world_by hd (then front (m ∷ []))) ds =
       subst (λ x. IsWalked ms (next p d.event d.bodies) x ds) (sym (more_moves front.moves (m ∷ [])
-          (world_from hd front.start))) walked.4 in (
+      (world_from hd front.start))) walked.4 in (
         d.bodies,
         subst (λ e. Step p e d.bodies) (sym walked.2) (gives front m p d.bodies few walked.0 walked.1 walked.3
             (subst (λ e. Kept hd form (next p e d.bodies) (moved m (world_by hd front))) walked.2
@@ -225,7 +225,7 @@ module _ (hd : Header) (form : HeaderInForm hd) where
   -- what each event leaves and what it wrote holds of the events of a run
   pub runs_so : (Step : Past → Event → List Body → Type 0) → ((front : Run hd) (m : Move) (p : Past) (bodies : List Body) →
       HasFewBindings (moved m (world_by hd front)).lines → Kept hd form p (world_by hd front) →
-          (let x = world_by hd front in x.over) ≡ false → joined.Said hd form p (event_of m) bodies →
+      (let x = world_by hd front in x.over) ≡ false → joined.Said hd form p (event_of m) bodies →
       Kept hd form (next p (event_of m) bodies) (moved m (world_by hd front)) → Step p (event_of m) bodies) → (r : Run hd) → IsInForm hd r →
       Runs Step r.start (run_events hd r) (journal_by hd r)
   runs_so Step gives r its =
@@ -235,7 +235,7 @@ module _ (hd : Header) (form : HeaderInForm hd) where
         w.ending,
         subst (λ es. Along Step (at_start r.start) es (behind (at_start r.start) k.did)) w.events
             (along Step r.start r.formed gives (record r { moves = [] }) k.did r.moves (at_start r.start) (none
-                (length r.moves) its.few) k.walked),
+            (length r.moves) its.few) k.walked),
         w.lines,
         w.last,
       )

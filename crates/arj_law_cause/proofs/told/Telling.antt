@@ -4,6 +4,7 @@ use Words.{Header, journal_by}
 use Rattle.arj_law_runs.specs.follow.Frames.{run_events}
 use Rattle.arj_promise.specs.Runs.{IsInForm, Run}
 use Rattle.arj_law_cause.proofs.quiesces.Alone.{runs_answer_alone}
+use Rattle.arj_law_cause.proofs.quiesces.Framed.{runs_send_few}
 use Rattle.arj_law_cause.proofs.quiesces.Rounds.{runs_answer, runs_end_rounds}
 use Rattle.arj_law_cause.proofs.told.Every.{journals_say_why}
 use Rattle.arj_law_cause.proofs.told.Joined.{journals_follow}
@@ -16,6 +17,7 @@ quiesces_told hd r form = record {
   answers = runs_answer hd r form;
   rounds = runs_end_rounds hd r form;
   alone = runs_answer_alone hd r form;
+  sends = runs_send_few hd r form;
 }
 
 pub journals_tell : JournalsTell

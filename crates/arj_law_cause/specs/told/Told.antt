@@ -9,10 +9,11 @@ use Rattle.arj_start.specs.Start.{Start}
 use Rattle.arj_law_cause.specs.rounds.Alone.{AloneStep}
 use Rattle.arj_law_cause.specs.rounds.Quiesces.{QuiescesStep}
 use Rattle.arj_law_cause.specs.rounds.Rounds.{EndsRounds}
+use Rattle.arj_law_cause.specs.rounds.Sends.{SendsStep}
 use Rattle.arj_law_cause.specs.told.Lines.{TellsWhy}
 use Rattle.arj_law_cause.specs.waits.replies.Ends.{RepliesStep}
 
--- What quiesces answer, and what rounds of them leave.
+-- What quiesces answer, what rounds of them leave, and how many frames events send.
 pub record TellsQuiesces (hd : Header) (st : Start) (es : List Event) (journal : List Line) : Type 0 where
   -- a quiesce in which no node is down, and no limit met, answers whoever waits, but for calls that are overtaken
   pub answers : Runs (QuiescesStep hd) st es journal
@@ -20,6 +21,8 @@ pub record TellsQuiesces (hd : Header) (st : Start) (es : List Event) (journal :
   pub rounds : EndsRounds hd st es journal
   -- on one node nobody waits for a quiesce: what is asked is answered in its own event
   pub alone : Runs (AloneStep hd) st es journal
+  -- a call or an include sends one frame at most, and so does a delivery of a request or an answer of one
+  pub sends : Runs (SendsStep hd) st es journal
 
 -- All of this, and what each event writes.
 pub record TellsItsCauses (hd : Header) (st : Start) (es : List Event) (journal : List Line) : Type 0 where

@@ -1,0 +1,446 @@
+-- How many frames an event adds to the world, and by its journal.
+use Rattle.arj_law_parts.proofs.Words
+use Words.{◌≡◌, ◌≤◌, ◌∙◌, ◌+◌, ◌-◌, ◌==◌, ◌++◌, ℕ, zero, suc, Bool, true, false, cond, List, [], ◌∷◌, length, take, refl, sym, ap, subst}
+use Words.{arith}
+use Words.{nat_lt, Option, Some, None, IfSome, length-append, Body, Event, FrameNo, Header, Kind, Label, Message, ObjectState, Uid}
+use Words.{begin_action, Did, Disk, Do, Effect, Pair, Say, Send, Stop, held_at, holder_of, worked, Handled, Parts, Took, Void, taken}
+use Words.{whole, with_coord}
+use Words.{entry, object, Input, Node, Step, acts, branch_named, copy_line, coord_did, entry_line, first_reason, handled_step, on_branch}
+use Words.{parent_of, refusal, refused_at, show_entry, shown, step, step_down, step_of, step_unless, step_up, at_place, at_number, Arm}
+use Words.{Frame, Giving}
+use Words.{World, armed, as_delivered, as_lost, begins, change_frame, count_works, counted, cut, deliver, deliver_frame, disarmed}
+use Words.{done_step, frame_number, giving, halted_at, halted_outs, happens, junk, junk_fits, labels_unless, lacks_labels, limited, lose}
+use Words.{lose_frame}
+use Words.{most_frames, new_frame, no_labels, node_numbers, node_of, put, reasons, run_unless, sends, show_all, show_up, is_up_at}
+use Words.{step_node}
+use Words.{step_with, steps, Move, moved, world_by, frame_kind, Branch}
+use Words.body
+use Words.event
+use Words.frame_no
+use Words.input
+use Words.message
+use Rattle.arj_journal.specs.ScriptForm.{HeaderInForm}
+use Rattle.arj_journal.specs.declared.body.FrameKind.{FrameKind}
+use Rattle.arj_law_parts.proofs.Terms.{says as world_says}
+use Rattle.arj_law_parts.proofs.moves.Places.{set_long}
+use Rattle.arj_law_runs.proofs.bindings.Handled.{outs_of}
+use Rattle.arj_law_runs.proofs.follow.Along.{event_of}
+use Rattle.arj_law_runs.proofs.follow.Telling.{Tells, carried_by, frame_test}
+use Rattle.arj_model.specs.CausePends.{frame_is}
+use Rattle.arj_model.specs.Past.{Past, next}
+use Rattle.arj_model.specs.Refusals.{last_frame}
+use Rattle.arj_model.specs.Refusals as model
+use Rattle.arj_promise.specs.Runs.{Run}
+use Rattle.arj_law_cause.proofs.quiesces.Answered.{Kept}
+use Rattle.arj_law_cause.proofs.quiesces.Sends
+use Sends.{SendsOne, count_both, count_sent, goes_one, of_call, taken_one, whole_sent}
+use Rattle.arj_law_cause.proofs.quiesces.Ties as ties
+use Rattle.arj_law_cause.proofs.quiesces.Walked as walked
+use Rattle.arj_law_cause.specs.rounds.Sends.{RunsSendFew, SendsStep, is_call_frame, is_of_call, most_sent}
+
+-- ---- effects as frames
+
+sends_long : (n : ℕ) (outs : List Effect) → length (sends n outs) ≡ count_sent outs
+sends_long n [] = refl
+sends_long n (Send to m ∷ es) = more (length (sends n es)) (count_sent es) (sends_long n es)
+  where
+    more : (a b : ℕ) → a ≡ b → suc a ≡ 1 + b
+    more a b is = omega (arith, is)
+sends_long n (Say b ∷ es) = sends_long n es
+sends_long n (Do w ∷ es) = sends_long n es
+
+take_short : {A : Type 0} (n : ℕ) (xs : List A) → length (take n xs) ≤ length xs
+take_short zero [] = omega arith
+take_short zero (x ∷ xs) = omega arith
+take_short (suc n) [] = omega arith
+take_short (suc n) (x ∷ xs) = more (length (take n xs)) (length xs) (take_short n xs)
+  where
+    more : (a b : ℕ) → a ≤ b → suc a ≤ suc b
+    more a b le = omega (arith, le)
+
+put_frames : (c k : ℕ) (outs : List Effect) (w : World) → count_sent outs ≤ c → length (put k outs w).frames ≤ length w.frames + c
+put_frames c k outs w le = more (length (put k outs w).frames) (length w.frames) (length (take (most_frames - length w.frames)
+    (sends k outs)))
+    (length (sends k outs)) (count_sent outs) c (length-append w.frames (take (most_frames - length w.frames) (sends k outs)))
+    (take_short (most_frames - length w.frames) (sends k outs)) (sends_long k outs) le
+  where
+    more : (a f t s o c : ℕ) → a ≡ f + t → t ≤ s → s ≡ o → o ≤ c → a ≤ f + c
+    more a f t s o c is x y z = omega (arith, is, x, y, z)
+
+cut_sent : (k : ℕ) (how : Stop) (outs : List Effect) (d : Disk) → count_sent (cut k how outs d).outs ≤ count_sent outs
+cut_sent k how [] d = omega arith
+cut_sent zero how (Do w ∷ es) d = least (count_sent es)
+  where
+    least : (a : ℕ) → 0 ≤ a
+    least a = omega arith
+cut_sent (suc k) how (Do w ∷ es) d = cut_sent k how es (worked w d)
+cut_sent zero how (Say b ∷ es) d = cut_sent zero how es d
+cut_sent (suc k) how (Say b ∷ es) d = cut_sent (suc k) how es d
+cut_sent zero how (Send to m ∷ es) d = more (count_sent (cut zero how es d).outs) (count_sent es) (cut_sent zero how es d)
+  where
+    more : (a b : ℕ) → a ≤ b → 1 + a ≤ 1 + b
+    more a b le = omega (arith, le)
+cut_sent (suc k) how (Send to m ∷ es) d = more (count_sent (cut (suc k) how es d).outs) (count_sent es) (cut_sent (suc k) how es d)
+  where
+    more : (a b : ℕ) → a ≤ b → 1 + a ≤ 1 + b
+    more a b le = omega (arith, le)
+
+-- ---- a step of a node
+
+-- it sends so many at most, also where it is stopped
+abbrev Few : ℕ → Step → Type 0
+Few c s = (count_sent s.outs ≤ c) × (count_sent s.halting ≤ c)
+
+steps_frames : (c k : ℕ) (i : Input) (w : World) → ((n : Node) → Few c (step w.header n i)) →
+    length (steps k i w).frames ≤ length w.frames + c
+steps_frames c k i w few = node (at_place k w.nodes)
+  where
+    stays : (a b : ℕ) → a ≤ a + b
+    stays a b = omega arith
+
+    done : (n : Node) → length (done_step k (step w.header n i) w).frames ≤ length w.frames + c
+    done n = put_frames c k (step w.header n i).outs w (few n).0
+
+    halted : (n : Node) (j : ℕ) (a : Arm) →
+        length (halted_at k n (cut j a.how (step w.header n i).halting n.disk) (disarmed k w)).frames ≤ length w.frames + c
+    halted n j a =
+        let q = cut j a.how (step w.header n i).halting n.disk in
+        put_frames c k (halted_outs k q) w (less (count_sent (halted_outs k q)) (count_sent q.outs) (count_sent
+        (step w.header n i).halting) c
+        (count_both q.outs (Say (body.Halted k) ∷ [])) (cut_sent j a.how (step w.header n i).halting n.disk) (few n).1)
+      where
+        less : (a b s c : ℕ) → a ≡ b + 0 → b ≤ s → s ≤ c → a ≤ c
+        less a b s c is x y = omega (arith, is, x, y)
+
+    with_arm : (n : Node) (a : Arm) (b : Bool) → length (cond b
+        (done_step k (step w.header n i) (armed k (record a { works = a.works - count_works (step w.header n i).halting }) w))
+        (halted_at k n (cut (a.works - 1) a.how (step w.header n i).halting n.disk) (disarmed k w))).frames ≤ length w.frames + c
+    with_arm n a true = done n
+    with_arm n a false = halted n (a.works - 1) a
+
+    arms : (n : Node) (o : Option Arm) → length (step_with k n (step w.header n i) w o).frames ≤ length w.frames + c
+    arms n None = done n
+    arms n (Some a) = with_arm n a (nat_lt (count_works (step w.header n i).halting) a.works)
+
+    node : (o : Option Node) → length (step_node k i w o).frames ≤ length w.frames + c
+    node None = stays (length w.frames) c
+    node (Some n) = arms n (at_number k w.arms)
+
+steps_header : (hd : Header) (c : ℕ) (i : Input) → ((n : Node) → Few c (step_down hd i n)) → ((n : Node) (t : Parts) →
+    Few c (step_up i n t)) →
+    (n : Node) → Few c (step hd n i)
+steps_header hd c i down up n = by (refusal hd i n)
+  where
+    least : (a : ℕ) → 0 ≤ a
+    least a = omega arith
+
+    live : (o : Option Parts) → Few c (step_of hd i n o)
+    live None = down n
+    live (Some t) = up n t
+
+    by : (r : Option ℕ) → Few c (step_unless hd i n r)
+    by (Some k) = (least c, least c)
+    by None = live n.live
+
+-- a coordinator that sends one message of a call at most
+did_few : (n : Node) (t : Parts) (d : Did Words.Coord) (c : ℕ) → (count_sent d.outs ≤ c) × Sends.AllCalls d.outs → Few c (coord_did n t d)
+did_few n t d c its = (all, all)
+  where
+    within : (a b c : ℕ) → a ≤ b → b ≤ c → a ≤ c
+    within a b c x y = omega (arith, x, y)
+
+    all : count_sent (whole n.number (with_coord t d.part) d.outs n.disk).outs ≤ c
+    all = within (count_sent (whole n.number (with_coord t d.part) d.outs n.disk).outs) (count_sent d.outs) c
+        (whole_sent n.number (with_coord t d.part) d.outs n.disk its.1) its.0
+
+nothing : (n : Node) → Few 0 (Words.input.does_nothing n)
+nothing n = (omega arith, omega arith)
+
+nothing_one : (n : Node) → Few 1 (Words.input.does_nothing n)
+nothing_one n = (omega arith, omega arith)
+
+call_few : (hd : Header) (l : Label) (x : ℕ) (o : Words.Op) (n : Node) → Few 1 (step hd n (input.Call l x o))
+call_few hd l x o = steps_header hd 1 (input.Call l x o) nothing_one (λ n t.
+    did_few n t (acts (input.Call l x o) (let d = n.disk in d.intents) t.coord) 1 (by (branch_named l t.coord) t.coord))
+  where
+    by : (b : Option Branch) (c : Words.Coord) → SendsOne (on_branch (λ f. Words.call f.path x o c) c b).outs
+    by None c = (omega arith, refl)
+    by (Some b) c = goes_one (Words.call_steps b.path x o (Words.next_req (Words.actor b.path) c) (Words.root_at
+        (Words.root_of b.path) c) c (kept b c))
+        (Words.on_root (Words.root_of b.path) (Words.with_keeping x (kept b c)) (record c { tree = Words.uses_object b.path x c.tree }))
+      where
+        kept : Branch → Words.Coord → Words.Keeping
+        kept b c = Words.renewed (Words.is_free (Words.root_of b.path) (Words.actor b.path) x c) (Words.keeping_of x (Words.root_at
+            (Words.root_of b.path) c))
+            (let k = Words.keeping_of x (Words.root_at (Words.root_of b.path) c) in k.kept)
+
+include_few : (hd : Header) (l : Label) (x s : ℕ) (n : Node) → Few 1 (step hd n (input.Include l x s))
+include_few hd l x s = steps_header hd 1 (input.Include l x s) nothing_one (λ n t.
+    did_few n t (acts (input.Include l x s) (let d = n.disk in d.intents) t.coord) 1 (by (branch_named l t.coord) t.coord))
+  where
+    by : (b : Option Branch) (c : Words.Coord) → SendsOne (on_branch (λ f. Words.include f.path x s c) c b).outs
+    by None c = (omega arith, refl)
+    by (Some b) c = goes_one (Words.start b.path x (Words.Include s) None Words.unbound (Words.next_req (Words.actor b.path) c))
+        (record c { tree = Words.uses_object b.path x c.tree })
+
+begin_few : (hd : Header) (l : Label) (how : Kind) (parent : Option Label) (n : Node) → Few 0 (step hd n (input.Begin l how parent))
+begin_few hd l how parent = steps_header hd 0 (input.Begin l how parent) nothing
+    (λ n t. did_few n t (begin_action l how parent (parent_of parent t.coord) t.coord) 0 (omega arith, refl))
+
+crash_few : (hd : Header) (n : Node) → Few 0 (step hd n input.Crash)
+crash_few hd = steps_header hd 0 input.Crash nothing (λ n t. (omega arith, omega arith))
+
+show_few : (hd : Header) (x : ℕ) (n : Node) → Few 0 (step hd n (input.Show x))
+show_few hd x = steps_header hd 0 (input.Show x) nothing (λ n t. (none n.number n.disk, none n.number n.disk))
+  where
+    entry_none : (o : Option ObjectState) → count_sent (entry_line x o) ≡ 0
+    entry_none None = refl
+    entry_none (Some s) = refl
+
+    copy_none : (k : ℕ) (o : Option ObjectState) → count_sent (copy_line k x o) ≡ 0
+    copy_none k None = refl
+    copy_none k (Some s) = refl
+
+    shown_none : (line : Option ObjectState → List Effect) → ((o : Option ObjectState) → count_sent (line o) ≡ 0) → (u : Uid) (d : Pair)
+        (o : Option Uid) → count_sent (shown line u d o) ≡ 0
+    shown_none line each u d (Some holder) = refl
+    shown_none line each u d None = each (held_at u d)
+
+    first : (k : ℕ) (d : Pair) (b : Bool) → count_sent (cond b (shown (entry_line x) (entry x) d (holder_of (entry x) d)) []) ≡ 0
+    first k d true = shown_none (entry_line x) entry_none (entry x) d (holder_of (entry x) d)
+    first k d false = refl
+
+    none : (k : ℕ) (d : Disk) → count_sent (Words.input.show_outs k x d) ≤ 0
+    none k d = low (count_sent (Words.input.show_outs k x d)) (count_sent (show_entry k x d.names))
+        (count_sent (shown (copy_line k x) (object x) d.store (holder_of (object x) d.store)))
+        (count_both (show_entry k x d.names) (shown (copy_line k x) (object x) d.store (holder_of (object x) d.store)))
+        (first k d.names (k == 1)) (shown_none (copy_line k x) (copy_none k) (object x) d.store (holder_of (object x) d.store))
+      where
+        low : (a b c : ℕ) → a ≡ b + c → b ≡ 0 → c ≡ 0 → a ≤ 0
+        low a b c is x y = omega (arith, is, x, y)
+
+frame_few : (hd : Header) (k from : ℕ) (m : Message) → of_call m ≡ true → (n : Node) → Few 1 (step hd n (input.Frame k from (Some m)))
+frame_few hd k from m is = steps_header hd 1 (input.Frame k from (Some m)) (λ n. (omega arith, omega arith)) taken_few
+  where
+    taken_few : (n : Node) (t : Parts) → Few 1 (step_up (input.Frame k from (Some m)) n t)
+    taken_few n t = by (taken n.number n.disk t from m) (taken_one n.number n.disk t from m is)
+      where
+        one : (a b : ℕ) → a ≡ b + 0 → b ≤ 1 → a ≤ 1
+        one a b is low = omega (arith, is, low)
+
+        within : (a b : ℕ) → a ≤ b → b ≤ 1 → a ≤ 1
+        within a b x y = omega (arith, x, y)
+
+        by : (r : Handled) → SendsOne (outs_of r) → Few 1 (handled_step k n r)
+        by (Void outs) its = (
+          one (count_sent (outs ++ Say (body.Void k) ∷ [])) (count_sent outs) (count_both outs (Say
+              (body.Void k) ∷ [])) its.0,
+          its.0,
+        )
+        by (Took v outs) its =
+            let le = within (count_sent (whole n.number v outs n.disk).outs) (count_sent outs)
+            (whole_sent n.number v outs n.disk its.1) its.0 in (le, le)
+
+-- ---- events
+
+abbrev Adds : ℕ → World → World → Type 0
+Adds c w v = length v.frames ≤ length w.frames + c
+
+begins_frames : (g : Giving) (w : World) → Adds 0 w (begins g w)
+begins_frames g w = by (refused_at (input.Begin g.label g.kind g.parent) w (at_place g.node w.nodes))
+  where
+    by : (o : Option ℕ) → Adds 0 w (steps g.node (input.Begin g.label g.kind g.parent) (labels_unless g w o))
+    by None = steps_frames 0 g.node (input.Begin g.label g.kind g.parent) (labels_unless g w None)
+        (begin_few w.header g.label g.kind g.parent)
+    by (Some c) = steps_frames 0 g.node (input.Begin g.label g.kind g.parent) w (begin_few w.header g.label g.kind g.parent)
+
+show_frames : (x : ℕ) (ns : List ℕ) (w : World) → Adds 0 w (show_all x ns w)
+show_frames x [] w = none (length w.frames)
+  where
+    none : (a : ℕ) → a ≤ a + 0
+    none a = omega arith
+show_frames x (n ∷ ns) w = both (length (show_all x ns (show_up x n w)).frames) (length (show_up x n w).frames) (length w.frames)
+    (show_frames x ns (show_up x n w)) (one (is_up_at n w))
+  where
+    both : (a b c : ℕ) → a ≤ b + 0 → b ≤ c + 0 → a ≤ c + 0
+    both a b c x y = omega (arith, x, y)
+
+    none : (a : ℕ) → a ≤ a + 0
+    none a = omega arith
+
+    one : (b : Bool) → length (cond b (steps n (input.Show x) w) w).frames ≤ length w.frames + 0
+    one true = steps_frames 0 n (input.Show x) w (show_few w.header x)
+    one false = none (length w.frames)
+
+lose_frames : (k : ℕ) (w : World) → Adds 0 w (lose k w)
+lose_frames k w = by (at_place k w.frames)
+  where
+    same : (a b : ℕ) → a ≡ b → a ≤ b + 0
+    same a b is = omega (arith, is)
+
+    by : (o : Option Frame) → Adds 0 w (lose_frame k w o)
+    by None = same (length w.frames) (length w.frames) refl
+    by (Some f) = same (length (change_frame k as_lost f w).frames) (length w.frames) (set_long k (as_lost f) w.frames)
+
+junk_frames : (n : ℕ) (w : World) → Adds 1 w (junk n w)
+junk_frames n w = by (nat_lt (length w.frames) most_frames)
+  where
+    one : (a b : ℕ) → a ≡ b + 1 → a ≤ b + 1
+    one a b is = omega (arith, is)
+
+    none : (a : ℕ) → a ≤ a + 1
+    none a = omega arith
+
+    by : (b : Bool) → Adds 1 w (junk_fits n w b)
+    by true = one (length (w.frames ++ new_frame 0 n None ∷ [])) (length w.frames) (length-append w.frames (new_frame 0 n None ∷ []))
+    by false = none (length w.frames)
+
+deliver_frames : (k : ℕ) (w : World) → frame_test (λ from to what. is_of_call what) (at_place k w.frames) ≡ true → Adds 1 w (deliver k w)
+deliver_frames k w = by (at_place k w.frames)
+  where
+    kind_of : (m : Message) → is_of_call (frame_kind m) ≡ true → of_call m ≡ true
+    kind_of (message.Bind m) is = refl
+    kind_of (message.Bound m) is = refl
+    kind_of (message.Load m) is = refl
+    kind_of (message.Loaded m) is = refl
+    kind_of (message.Activate m) is = refl
+    kind_of (message.Activated m) is = refl
+    kind_of (message.RecordMsg m) is = refl
+    kind_of (message.Recorded m) is = refl
+    kind_of (message.Invoke m) is = refl
+    kind_of (message.Invoked m) is = refl
+    kind_of (message.Vote m) is = absurd (cc is)
+    kind_of (message.Voted m) is = absurd (cc is)
+    kind_of (message.Prepare m) is = absurd (cc is)
+    kind_of (message.Prepared m) is = absurd (cc is)
+    kind_of (message.Confirm m) is = absurd (cc is)
+    kind_of (message.Confirmed m) is = absurd (cc is)
+    kind_of (message.Told m) is = absurd (cc is)
+    kind_of (message.Acked m) is = absurd (cc is)
+    kind_of (message.Query m) is = absurd (cc is)
+    kind_of (message.Hello m) is = absurd (cc is)
+
+    carried : (f : Frame) (o : Option Message) → is_of_call (carried_by o) ≡ true →
+        Adds 1 w (steps f.to (input.Frame k f.from o) (change_frame k as_delivered f w))
+    carried f None is = absurd (cc is)
+    carried f (Some m) is = subst (λ j. length (steps f.to (input.Frame k f.from (Some m))
+        (change_frame k as_delivered f w)).frames ≤ j + 1)
+        (set_long k (as_delivered f) w.frames)
+        (steps_frames 1 f.to (input.Frame k f.from (Some m)) (change_frame k as_delivered f w) (frame_few w.header k f.from m
+        (kind_of m is)))
+
+    by : (o : Option Frame) → frame_test (λ from to what. is_of_call what) o ≡ true → Adds 1 w (deliver_frame k w o)
+    by None is = absurd (cc is)
+    by (Some f) is = carried f f.message is
+
+-- of each event for which there is a bound
+module _ (ls : List Words.Line) (w : World) (last : last_frame ls ≡ length w.frames)
+    (frames : (test : ℕ → ℕ → FrameKind → Bool) (k : ℕ) → frame_is test ls k ≡ frame_test test (at_place k w.frames)) where
+  abbrev Bound : Event → Type 0
+  Bound e = (a : Arm) → IfSome (most_sent ls e) (λ k. Adds k w (happens e a w))
+
+  none : (a : ℕ) → a ≤ a + 0
+  none a = omega arith
+
+  number_is : (k : FrameNo) → model.frame_no ls k ≡ frame_number k w
+  number_is (frame_no.Number j) = refl
+  number_is frame_no.Last = last
+
+  delivered : (k : FrameNo) (b : Bool) → is_call_frame ls (model.frame_no ls k) ≡ b →
+      IfSome (cond b (Some 1) None) (λ j. Adds j w (deliver (frame_number k w) w))
+  delivered k true is = deliver_frames (frame_number k w) w
+      (sym (frames (λ from to what. is_of_call what) (frame_number k w)) ∙ ap (is_call_frame ls) (sym (number_is k)) ∙ is)
+  delivered k false is = tt
+
+  pub bounded : (e : Event) → Bound e
+  bounded (event.Call l x op) a = steps_frames 1 (node_of l w) (input.Call l x op) w (call_few w.header l x op)
+  bounded (event.Include l x n) a = steps_frames 1 (node_of l w) (input.Include l x n) w (include_few w.header l x n)
+  bounded (event.Deliver k) a = delivered k (is_call_frame ls (model.frame_no ls k)) refl
+  bounded (event.Junk n bytes) a = junk_frames n w
+  bounded (event.Commit l) a = tt
+  bounded (event.Abort l) a = tt
+  bounded (event.GiveUp l) a = tt
+  bounded (event.Tick n) a = tt
+  bounded (event.Restart n) a = tt
+  bounded event.Settle a = tt
+  bounded event.Quiesce a = tt
+  bounded (event.Begin l n) a = begins_frames (record { label = l; kind = Words.kind.Top; parent = None; node = n }) w
+  bounded (event.Serial l n) a = begins_frames (record { label = l; kind = Words.kind.Serial; parent = None; node = n }) w
+  bounded (event.BeginIn l p) a =
+      begins_frames (record { label = l; kind = Words.kind_below p w; parent = Some p; node = node_of p w }) w
+  bounded (event.Top l p) a = begins_frames (record { label = l; kind = Words.kind.Independent; parent = Some p; node = node_of p w }) w
+  bounded (event.Lose k) a = lose_frames (frame_number k w) w
+  bounded (event.Crash n) a = steps_frames 0 n input.Crash w (crash_few w.header)
+  bounded (event.Stop n c how) a = none (length w.frames)
+  bounded (event.Show x) a = show_frames x (node_numbers w) w
+
+-- ---- in a run
+
+if_less : (o : Option ℕ) (P Q : ℕ → Type 0) → ((k : ℕ) → P k → Q k) → IfSome o P → IfSome o Q
+if_less None P Q less its = tt
+if_less (Some k) P Q less its = less k its
+
+if_all : (o : Option ℕ) (P : ℕ → Type 0) → ((k : ℕ) → P k) → IfSome o P
+if_all None P each = tt
+if_all (Some k) P each = each k
+
+-- an event that is refused, or not run, sends none
+module _ (ls : List Words.Line) (w : World) (last : last_frame ls ≡ length w.frames)
+    (frames : (test : ℕ → ℕ → FrameKind → Bool) (k : ℕ) → frame_is test ls k ≡ frame_test test (at_place k w.frames)) (m : Move) where
+  abbrev In : World → Type 0
+  In v = IfSome (most_sent ls (event_of m)) (λ k. Adds k w v)
+
+  stays : (a b : ℕ) → a ≤ a + b
+  stays a b = omega arith
+
+  as_it_is : (v : World) → v.frames ≡ w.frames → In v
+  as_it_is v same = if_all (most_sent ls (event_of m)) (λ k. Adds k w v)
+      (λ k. subst (λ fs. length fs ≤ length w.frames + k) (sym same) (stays (length w.frames) k))
+
+  abbrev u : World
+  u = record w { arms = m.falls }
+
+  fits : (b : Bool) → let v = happens (event_of m) (let a = m.asked in a.arm) (counted (record w { arms = m.falls })) in
+      In (record (cond b (world_says (body.Limit Words.words.which.Frames ∷ []) (record v { over = true })) v) { arms = [] })
+  fits true = bounded ls (counted (record w { arms = m.falls })) last frames (event_of m) (let a = m.asked in a.arm)
+  fits false = bounded ls (counted (record w { arms = m.falls })) last frames (event_of m) (let a = m.asked in a.arm)
+
+  accepted : (lacks : Bool) → In (record (cond lacks (no_labels (record w { arms = m.falls }))
+      (limited (happens (event_of m) (let a = m.asked in a.arm) (counted (record w { arms = m.falls }))))) { arms = [] })
+  accepted true = as_it_is (record (no_labels (record w { arms = m.falls })) { arms = [] }) refl
+  accepted false = fits (let v = happens (event_of m) (let a = m.asked in a.arm) (counted (record w { arms = m.falls })) in v.full)
+
+  asked : (r : Option ℕ) → In (record (run_unless (event_of m) (let a = m.asked in a.arm) (record w { arms = m.falls }) r) { arms = [] })
+  asked (Some c) = as_it_is (record (world_says (body.Refused c ∷ []) (counted (record w { arms = m.falls }))) { arms = [] }) refl
+  asked None = accepted (lacks_labels (giving (event_of m) (record w { arms = m.falls })) (record w { arms = m.falls }))
+
+  pub moved_few : In (moved m w)
+  moved_few = by w.over
+    where
+      by : (over : Bool) → In (record (cond over (record w { arms = m.falls })
+          (run_unless (event_of m) (let a = m.asked in a.arm) (record w { arms = m.falls })
+          (first_reason (reasons (event_of m) (record w { arms = m.falls }))))) { arms = [] })
+      by true = as_it_is (record (record w { arms = m.falls }) { arms = [] }) refl
+      by false = asked (first_reason (reasons (event_of m) (record w { arms = m.falls })))
+
+module _ (hd : Header) (form : HeaderInForm hd) (front : Run hd) (m : Move) (p : Past) (bodies : List Body) (s : Kept hd form p
+    (world_by hd front))
+    (after : Kept hd form (next p (event_of m) bodies) (moved m (world_by hd front))) where
+  before_tells : Tells p.start p.lines (let w = world_by hd front in w.frames) (let w = world_by hd front in w.nodes)
+  before_tells = let t = ties.told hd form p (world_by hd front) s.all in t.tells
+
+  behind_tells : Tells p.start (let q = next p (event_of m) bodies in q.lines) (let v = moved m (world_by hd front) in v.frames)
+      (let v = moved m (world_by hd front) in v.nodes)
+  behind_tells = let t = ties.told hd form (next p (event_of m) bodies) (moved m (world_by hd front)) after.all in t.tells
+
+  pub sends_few : SendsStep hd p (event_of m) bodies
+  sends_few = if_less (most_sent p.lines (event_of m)) (λ k. Adds k (world_by hd front) (moved m (world_by hd front)))
+      (λ k. last_frame (let q = next p (event_of m) bodies in q.lines) ≤ last_frame p.lines + k)
+      (λ k le. subst (λ n. n ≤ last_frame p.lines + k) (sym behind_tells.last)
+      (subst (λ n. length (let v = moved m (world_by hd front) in v.frames) ≤ n + k) (sym before_tells.last) le))
+      (moved_few p.lines (world_by hd front) before_tells.last before_tells.frames m)
+
+-- so it is of each event of a run
+pub runs_send_few : RunsSendFew
+runs_send_few hd r its = walked.runs_so hd its.header (SendsStep hd)
+    (λ front m p bodies few s on step after. sends_few hd its.header front m p bodies s after) r its
