@@ -7,6 +7,7 @@
 -- that flag begins, calls and includes are refused, and commits aborted (`Meaning`), event by event in whole runs (`Running`).
 pub mod Sending
 pub mod Asking
+pub mod Wanting
 pub mod Stepping
 pub mod Walking
 pub mod Spans

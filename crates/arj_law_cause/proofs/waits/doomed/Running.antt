@@ -5,7 +5,7 @@ use Words.{subst, append_assoc, map-append, append-nil}
 use Words.{actor, at_place, branch_named, counted, doing_of, first_reason, giving, happens, is_invoke, lacks_labels, limited, moved, name}
 use Words.{no_labels, node_in, node_of}
 use Words.{reasons, refusal_up, refused_at, refused_by, run_unless, steps, world_from, numbered, see, Body, Branch, Calling, Doing, Event}
-use Words.{Header, Input, Kind}
+use Words.{Header, Input, Kind, parts_in}
 use Words.{commit_reasons, Label, Labelled, Move, Node, Parts, Start, Steps, Uid, World, next_node}
 use Words.body
 use Words.cause
@@ -21,7 +21,7 @@ use Rattle.arj_law_parts.specs.moves.Moments.{History, no_history}
 use Rattle.arj_law_parts.specs.moves.With.{past_event}
 use Rattle.arj_law_parts.specs.steps.Writes.{node_refusal}
 use Rattle.arj_law_runs.proofs.Terms
-use Terms.{Holds, IsGood, IsBusy, actor_is, move_asked, says, paths_of}
+use Terms.{Holds, IsGood, IsBusy, Want, actor_is, move_asked, says, paths_of}
 use Rattle.arj_law_runs.proofs.addresses.BindRuns.{binds_keep}
 use Rattle.arj_law_runs.proofs.follow.Along.{Ended, Outcome, Went, event_of, runs_along}
 use Rattle.arj_law_runs.proofs.follow.Frames as frames
@@ -31,6 +31,7 @@ use Rattle.arj_law_runs.proofs.follow.Refusing as refusing
 use Rattle.arj_law_runs.proofs.follow.Refusing.{Came, IsRefused, IsRun, same_bodies}
 use Rattle.arj_law_runs.proofs.journal.Beginning.{named_at}
 use Rattle.arj_law_runs.proofs.kept.Starts.{first_up}
+use Rattle.arj_law_serial.proofs.Terms.{disk_by}
 use Rattle.arj_law_runs.specs.addresses.Binds.{BindsAreKnown}
 use Rattle.arj_law_promise.proofs.settling.Waiting.{AllKnown}
 use Rattle.arj_journal.specs.ScriptForm.{HeaderInForm}
@@ -55,6 +56,7 @@ use Rattle.arj_law_cause.proofs.waits.doomed.Spans.{Both, lined_keep}
 use Rattle.arj_law_cause.proofs.waits.doomed.Standing.{Stands, Ways, flags_hear, ways_more}
 use Rattle.arj_law_cause.proofs.waits.doomed.Stepping.{IsUnderWay}
 use Rattle.arj_law_cause.proofs.waits.doomed.Walking as walking
+use Rattle.arj_law_cause.proofs.waits.doomed.Wanting.{AreAsked, Calls, Commits, Waits}
 use Rattle.arj_law_cause.specs.waits.doomed.Dooms.{DoomsHaveCauses, DoomsStep, IsToldDoomed}
 
 -- ---- lines
@@ -137,7 +139,7 @@ module _ (hd : Header) (form : HeaderInForm hd) where
       ways = ways_more hd form (Doomed p) (Doomed (next p (event_of m) bodies)) w (doomed_next p (event_of m) bodies) (s.ways on)
 
       ways_then : Ways hd form (Doomed (next p (event_of m) bodies)) (counted (record w { arms = m.falls }))
-      ways_then = let z = ways in record { calls = z.calls; trees = z.trees }
+      ways_then = let z = ways in record { calls = z.calls; trees = z.trees; asked = z.asked }
 
       keeps_it : (v : World) → v.nodes ≡ w.nodes → v.frames ≡ w.frames → Ways hd form (Doomed (next p (event_of m) bodies)) v
       keeps_it v nodes same = walking.same_stands hd form (Flags D) (flags_hear D) (flags_begun D) (flags_new D) w v nodes same ways
@@ -422,14 +424,20 @@ module _ (hd : Header) (form : HeaderInForm hd) where
     ways = λ over. record {
       calls = λ k a t there live. (new k a t there live).0;
       trees = λ k a t there live. (new k a t there live).1;
+      asked = λ k a t there live. (new k a t there live).2;
     };
   }
     where
       new : (k : ℕ) (a : Node) (t : Parts) → at_place k (world_from hd st).nodes ≡ Some a → a.live ≡ Some t →
-          AreUnderWay k t.coord (IsUnderWay []) × Flags (Doomed (at_start st)) t.coord.tree
-      new k a t there live = subst (λ (x : Parts). AreUnderWay k x.coord (IsUnderWay []) × Flags (Doomed (at_start st)) x.coord.tree)
+          AreUnderWay k t.coord (IsUnderWay []) × Flags (Doomed (at_start st)) t.coord.tree × AreAsked k t.coord []
+      new k a t there live = subst (λ (x : Parts). AreUnderWay k x.coord (IsUnderWay []) × Flags (Doomed (at_start st)) x.coord.tree
+          × AreAsked k x.coord [])
           (first_up hd st k a t there live)
-          ((λ u q s does now is. absurd (no_doing _ u.num q does)), flags_new (Doomed (at_start st)) _ _)
+          ((λ u q s does now is. absurd (no_doing _ u.num q does)), flags_new (Doomed (at_start st)) _ _, (λ x apart on. none_waits x on))
+        where
+          none_waits : {A : Type 0} (x : Want) → Waits (let v = parts_in k (st.incs k + 1) (disk_by hd st k) in v.coord) x → A
+          none_waits x (Calls u q s does now is) = absurd (no_doing _ u.num q does)
+          none_waits x (Commits u q m j does now left is) = absurd (no_doing _ u.num q does)
 
 pub dooms_have_causes : DoomsHaveCauses
 dooms_have_causes hd r its =

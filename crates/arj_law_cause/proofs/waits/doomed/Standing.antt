@@ -29,6 +29,7 @@ module _ (hd : Header) (form : HeaderInForm hd) where
   ways_more D E w to z = record {
     calls = z.calls;
     trees = λ k a t there live u b found doomed. to u (z.trees k a t there live u b found doomed);
+    asked = z.asked;
   }
 
   pub record Stands (g : History) (p : Past) (w : World) : Type 0 where

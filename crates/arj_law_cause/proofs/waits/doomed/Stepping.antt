@@ -17,7 +17,7 @@ use Words.body
 use Words.input
 use Words.list as members
 use Rattle.arj_law_runs.proofs.Terms
-use Terms.{AreBrought, Asking, HasWay, Holds, In, IsGood, KeepsAsked, Up, Walks, at, is_act, place_same, taken_meant, up, want_of_call}
+use Terms.{AreBrought, Asking, HasWay, Want, Holds, In, IsGood, KeepsAsked, Up, Walks, at, is_act, place_same, taken_meant, up, want_of_call}
 use Terms.{AnswersWaits}
 use Rattle.arj_journal.specs.ScriptForm.{HeaderInForm}
 use Rattle.arj_law_parts.specs.moves.Keeps.{AsksNode}
@@ -35,6 +35,8 @@ use Rattle.arj_law_runs.specs.resting.Waits.{Answering, Brings}
 use Rattle.arj_protocol.specs.World.{overflows}
 use Rattle.arj_law_cause.proofs.waits.doomed.Asking
 use Asking.{AreUnderWay, IsOther, acts_go, again_goes, begins_go, from_brought, gone_on, to_brought}
+use Rattle.arj_law_cause.proofs.waits.doomed.Wanting
+use Wanting.{AreAsked, Calls, Commits, Waits, WaitsOn, asked_landed, asked_more, go_waits, message_waits, whole_asks}
 use Rattle.arj_law_cause.proofs.waits.doomed.Sending
 use Sending.{HasFrame, NoneTo, all_fit, has_left, has_right, none_both, sends_has, whole_none}
 
@@ -162,44 +164,56 @@ module _ (hd : Header) (form : HeaderInForm hd) (P : Tree → Type 0) (hears : (
   pub known_of : (w : World) → Holds hd (λ M. AllKnown hd M × IsGood M) w → IsKnown w
   known_of w h = record { sent = h.sent; header = h.stands.header; numbers = h.stands.numbers; holds = h.holds }
 
-  -- Each call at a node that is up has what answers it under way, and each tree there is so.
+  -- Each call at a node that is up has what answers it under way, each tree there is so, and a frame asks for all that is waited for of
+  -- other nodes.
   pub record Stands (w : World) : Type 0 where
     pub calls : (k : ℕ) (a : Node) (t : Parts) → at_place k w.nodes ≡ Some a → a.live ≡ Some t → AreUnderWay k t.coord (IsUnderWay w.frames)
     pub trees : (k : ℕ) (a : Node) (t : Parts) → at_place k w.nodes ≡ Some a → a.live ≡ Some t → P t.coord.tree
+    pub asked : (k : ℕ) (a : Node) (t : Parts) → at_place k w.nodes ≡ Some a → a.live ≡ Some t → AreAsked k t.coord w.frames
 
   put_stands : (n : ℕ) (a b : Node) (outs : List Effect) (w : World) → at_place n w.nodes ≡ Some a → Stands w →
-      ((t : Parts) → b.live ≡ Some t → AreUnderWay n t.coord (IsUnderWay (frames_with w.frames (sends n outs))) × P t.coord.tree) →
+      ((t : Parts) → b.live ≡ Some t → AreUnderWay n t.coord (IsUnderWay (frames_with w.frames (sends n outs))) × P t.coord.tree
+      × AreAsked n t.coord (frames_with w.frames (sends n outs))) →
       Stands (put n outs (set_node n b w))
   put_stands n a b outs w there s its = record {
     calls = λ k x t found live. (both k x t found live).0;
     trees = λ k x t found live. (both k x t found live).1;
+    asked = λ k x t found live. (both k x t found live).2;
   }
     where
       both : (k : ℕ) (x : Node) (t : Parts) → at_place k (set_place n b w.nodes) ≡ Some x → x.live ≡ Some t →
           AreUnderWay k t.coord (IsUnderWay (frames_with w.frames (sends n outs))) × P t.coord.tree
+          × AreAsked k t.coord (frames_with w.frames (sends n outs))
       both k x t found live = by (k == n) refl
         where
           apart : (k == n) ≡ false → k ≢ n
           apart e = grind (arith, nat_tests, e)
 
           by : (z : Bool) → (k == n) ≡ z → AreUnderWay k t.coord (IsUnderWay (frames_with w.frames (sends n outs))) × P t.coord.tree
+              × AreAsked k t.coord (frames_with w.frames (sends n outs))
           by true e =
               let same : k ≡ n = eqb-true k n e in
               let one : b ≡ x = some_is b x (sym (place_same n b a w.nodes there) ∙ ap (λ j. at_place j (set_place n b w.nodes)) (sym same)
               ∙ found) in
               let r = its t (ap (λ (y : Node). y.live) one ∙ live) in
-              (subst (λ j. AreUnderWay j t.coord (IsUnderWay (frames_with w.frames (sends n outs)))) (sym same) r.0, r.1)
+              (
+                subst (λ j. AreUnderWay j t.coord (IsUnderWay (frames_with w.frames (sends n outs)))) (sym same) r.0,
+                r.1,
+                subst (λ j. AreAsked j t.coord (frames_with w.frames (sends n outs))) (sym same) r.2,
+              )
           by false e =
               let old = sym (place_other n k b w.nodes (apart e)) ∙ found in (
                 ways_to k t.coord (IsUnderWay w.frames) (IsUnderWay (frames_with w.frames (sends n outs)))
                     (more_frames w.frames (take (most_frames - length w.frames) (sends n outs))) (s.calls k x t old live),
                 s.trees k x t old live,
+                asked_more k t.coord w.frames (take (most_frames - length w.frames) (sends n outs)) (s.asked k x t old live),
               )
 
   -- what holds of a step of node k behind it, where its frames fit
   abbrev Leaves : World → ℕ → Step → Type 0
   Leaves w k s = overflows w.frames (sends k s.outs) ≡ false → (t : Parts) → (let n = s.after in n.live) ≡ Some t →
       AreUnderWay k t.coord (IsUnderWay (frames_with w.frames (sends k s.outs))) × P t.coord.tree
+      × AreAsked k t.coord (frames_with w.frames (sends k s.outs))
 
   second : (x y : Bool) → (x || y) ≡ false → y ≡ false
   second true y is = absurd (cc is)
@@ -216,10 +230,10 @@ module _ (hd : Header) (form : HeaderInForm hd) (P : Tree → Type 0) (hears : (
           Stands (if b then done_step n s (armed n (record r { works = r.works - count_works s.halting }) w) else
           halted_at n a (cut (r.works - 1) r.how s.halting a.disk) (disarmed n w))
       by true free = put_stands n a s.after s.outs (armed n (record r { works = r.works - count_works s.halting }) w) there
-          (record { calls = z.calls; trees = z.trees }) (its (second w.full (overflows w.frames (sends n s.outs)) free))
+          (record { calls = z.calls; trees = z.trees; asked = z.asked }) (its (second w.full (overflows w.frames (sends n s.outs)) free))
       by false free = let c = cut (r.works - 1) r.how s.halting a.disk in
           put_stands n a (record a { disk = c.disk; live = None }) (halted_outs n c) (disarmed n w) there
-          (record { calls = z.calls; trees = z.trees }) (λ t live. absurd (cc live))
+          (record { calls = z.calls; trees = z.trees; asked = z.asked }) (λ t live. absurd (cc live))
 
   -- ---- a node, whatever is known of it
 
@@ -232,6 +246,8 @@ module _ (hd : Header) (form : HeaderInForm hd) (P : Tree → Type 0) (hears : (
           (more_frames w.frames (take (most_frames - length w.frames) (sends k s.outs)))
           (z.calls k (record { number = k; disk = d; live = live }) t there (sym same ∙ is)),
       z.trees k (record { number = k; disk = d; live = live }) t there (sym same ∙ is),
+      asked_more k t.coord w.frames (take (most_frames - length w.frames) (sends k s.outs))
+          (z.asked k (record { number = k; disk = d; live = live }) t there (sym same ∙ is)),
     )
 
     no_sends : NoneTo k []
@@ -263,6 +279,10 @@ module _ (hd : Header) (form : HeaderInForm hd) (P : Tree → Type 0) (hears : (
           subst (λ (y : Parts). P y.coord.tree) same
               (begins how (parent_of parent t.coord) t.coord.tree
               (z.trees k (record { number = k; disk = d; live = Some t }) t there refl)),
+          subst (λ (y : Parts). AreAsked k y.coord (frames_with w.frames (sends k did.outs))) same
+              (asked_landed k t.coord did.part w.frames did.outs fits
+              (λ q apart on. go_waits t.coord did.part did.outs (begins_go l how parent t.coord did.outs) q on)
+              (z.asked k (record { number = k; disk = d; live = Some t }) t there refl)),
         ))
 
     begin_node : (l : Label) (how : Kind) (parent : Option Label) (d : Disk) (live : Option Parts) →
@@ -379,9 +399,9 @@ module _ (hd : Header) (form : HeaderInForm hd) (P : Tree → Type 0) (hears : (
     -- what a handler leaves, with all that the node sends itself
     whole_leaves : (d : Disk) (live : Option Parts) → at_place k w.nodes ≡ Some (record { number = k; disk = d; live = live }) →
         (v : Parts) (before outs : List Effect) → NoneTo k before → Walks Known w.event k outs (Up Known k v) d (see known.sent w) →
-        AreUnderWay k v.coord (Then (IsUnderWay w.frames) k outs) → P v.coord.tree →
-        Leaves w k (node_did (record { number = k; disk = d; live = live }) before v outs)
-    whole_leaves d live there v before outs silent walks its tree fits t is =
+        AreUnderWay k v.coord (Then (IsUnderWay w.frames) k outs) → P v.coord.tree → (c : Coord) → WaitsOn c v.coord outs →
+        AreAsked k c w.frames → Leaves w k (node_did (record { number = k; disk = d; live = live }) before v outs)
+    whole_leaves d live there v before outs silent walks its tree c on asked fits t is =
         let q = whole k v outs d in
         let base = nodes_in w in
         let F : Post → Type 0 = IsUnderWay w.frames in
@@ -399,6 +419,10 @@ module _ (hd : Header) (form : HeaderInForm hd) (P : Tree → Type 0) (hears : (
               (ways_to k t.coord (Then F k q.outs) (Then F k (before ++ q.outs))
               (λ p. ⊎_elim (λ f. inl f) (λ s. inr (s.0, in_right (Send p.to p.message) before q.outs s.1))) ways),
           all.1 t.coord at_end,
+          asked_landed k c t.coord w.frames (before ++ q.outs) fits (λ x apart on_it. ⊎_elim (λ old. inl old)
+              (λ a. inr (record { message = a.message; sent = in_right (Send x.node a.message) before q.outs a.sent; asks = a.asks }))
+              (whole_asks k hd Known keeps homes w.event c d v outs (see known.sent w) walks on x apart
+              (subst (λ (y : Parts). Waits y.coord x) (sym same) on_it))) asked,
         )
       where
         here : (c : Disk) (x : Parts) → coords (with_here k (record { disk = c; parts = x }) (nodes_in w)) k ≡ Some x.coord
@@ -419,6 +443,9 @@ module _ (hd : Header) (form : HeaderInForm hd) (P : Tree → Type 0) (hears : (
 
       its_tree : P t.coord.tree
       its_tree = z.trees k (record { number = k; disk = d; live = Some t }) t there refl
+
+      its_asked : AreAsked k t.coord w.frames
+      its_asked = z.asked k (record { number = k; disk = d; live = Some t }) t there refl
 
       its_known : AllKnown hd (up k d t (see known.sent w)) × IsGood (up k d t (see known.sent w))
       its_known = seen_at d (Some t) there
@@ -447,14 +474,17 @@ module _ (hd : Header) (form : HeaderInForm hd) (P : Tree → Type 0) (hears : (
               (from_brought k v.coord (ways.put k v.coord (coords (up k d t (see known.sent w)).nodes)) (Then (IsUnderWay w.frames) k outs)
               (λ b. ⊤)
               (λ i. if same_number k i then Some v.coord else coords (up k d t (see known.sent w)).nodes k) b)
-              (tree_left k d t v from m outs (taken_took k d t v from m outs so) its_tree)
+              (tree_left k d t v from m outs (taken_took k d t v from m outs so) its_tree) t.coord
+              (message_waits k d t v from m outs (homes k d t (see known.sent w) its_known) (taken_took k d t v from m outs so)) its_asked
 
       act_leaves : (i : Input) → is_act i ≡ true → AsksNode hd i → refusal_up hd i t.coord ≡ None → Acts d t i →
           Leaves w k (Words.coord_did (record { number = k; disk = d; live = Some t }) t (acts i d.intents t.coord))
       act_leaves i is asks_node free may = let did = acts i d.intents t.coord in
           whole_leaves d (Some t) there (with_coord t did.part) [] did.outs (no_sends k w z)
           (keeps.act w.event k d t i (see known.sent w) is asks_node free its_known)
-          (gone_on k t.coord did.part did.outs (IsUnderWay w.frames) (acts_go i d.intents t.coord is) its_calls) (may is free its_tree)
+          (gone_on k t.coord did.part did.outs (IsUnderWay w.frames) (acts_go i d.intents t.coord (homes k d t (see known.sent w) its_known) is)
+          its_calls) (may is free its_tree) t.coord
+          (go_waits t.coord did.part did.outs (acts_go i d.intents t.coord (homes k d t (see known.sent w) its_known) is)) its_asked
 
       tick_leaves : Leaves w k (Words.tick_step (record { number = k; disk = d; live = Some t }) t)
       tick_leaves =
@@ -463,7 +493,8 @@ module _ (hd : Header) (form : HeaderInForm hd) (P : Tree → Type 0) (hears : (
           whole_leaves d (Some t) there (with_coord t r.part) [] outs (no_sends k w z)
           (keeps.tick w.event k d t (see known.sent w) its_known)
           (gone_on k t.coord r.part outs (IsUnderWay w.frames) (again_goes t.coord outs) its_calls)
-          (subst P (sym (again_tree t.coord.doings t.coord)) its_tree)
+          (subst P (sym (again_tree t.coord.doings t.coord)) its_tree) t.coord
+          (go_waits t.coord r.part outs (again_goes t.coord outs)) its_asked
 
       up_leaves : (i : Input) → Comes hd known.sent k i → Acts d t i → refusal_up hd i t.coord ≡ None →
           Leaves w k (Words.step_up i (record { number = k; disk = d; live = Some t }) t)
@@ -488,7 +519,8 @@ module _ (hd : Header) (form : HeaderInForm hd) (P : Tree → Type 0) (hears : (
         let v = parts_in k (d.inc + 1) d in
         whole_leaves d None there v [] (restart_outs hd k (d.inc + 1) d) (no_sends k w z)
         (keeps.restart w.event k d (see known.sent w) (seen_at d None there))
-        (λ u q s does now is. absurd (none_there u q does)) (fresh k (d.inc + 1))
+        (λ u q s does now is. absurd (none_there u q does)) (fresh k (d.inc + 1)) (let v = parts_in k (d.inc + 1) d in v.coord)
+        (λ x on. inl on) (λ x apart on. none_waits x on)
       where
         none_there : (u : Uid) (q : Doing) → doing_of u (let v = parts_in k (d.inc + 1) d in v.coord) ≡ Some q → ⊥
         none_there u q does = by (Words.is_own u (let v = parts_in k (d.inc + 1) d in let c = v.coord in c.tree)) u.num does
@@ -497,6 +529,10 @@ module _ (hd : Header) (form : HeaderInForm hd) (P : Tree → Type 0) (hears : (
             by false j is = cc is
             by true zero is = cc is
             by true (suc j) is = cc is
+
+        none_waits : {A : Type 0} (x : Want) → Waits (let v = parts_in k (d.inc + 1) d in v.coord) x → A
+        none_waits x (Calls u q s does now is) = absurd (none_there u q does)
+        none_waits x (Commits u q m j does now left is) = absurd (none_there u q does)
     down_leaves d there input.Tick = λ fits x is. absurd (cc is)
     down_leaves d there input.Crash = λ fits x is. absurd (cc is)
     down_leaves d there (input.Show x) = λ fits y is. absurd (cc is)

@@ -23,6 +23,7 @@ use Rattle.arj_protocol.specs.World as world
 use Rattle.arj_law_cause.proofs.waits.doomed.Asking.{AreUnderWay}
 use Rattle.arj_law_cause.proofs.waits.doomed.Sending.{IsFrameOf, has_marked}
 use Rattle.arj_law_cause.proofs.waits.doomed.Stepping
+use Rattle.arj_law_cause.proofs.waits.doomed.Wanting.{AreAsked, asked_more}
 use Stepping.{Comes, IsUnderWay, more_frames, ways_to}
 
 -- the rest of a settling
@@ -66,6 +67,7 @@ module _ (hd : Header) (form : HeaderInForm hd) (P : Tree → Type 0) (hears : (
     calls = λ k a t there live. subst (λ fs. AreUnderWay k t.coord (IsUnderWay fs)) (sym frames)
         (z.calls k a t (ap (λ ns. at_place k ns) (sym nodes) ∙ there) live);
     trees = λ k a t there live. z.trees k a t (ap (λ ns. at_place k ns) (sym nodes) ∙ there) live;
+    asked = λ k a t there live. subst (AreAsked k t.coord) (sym frames) (z.asked k a t (ap (λ ns. at_place k ns) (sym nodes) ∙ there) live);
   }
 
   marked_stands : (k : ℕ) (mark : Frame → Frame) (f : Frame) (w : World) → at_place k w.frames ≡ Some f →
@@ -74,6 +76,13 @@ module _ (hd : Header) (form : HeaderInForm hd) (P : Tree → Type 0) (hears : (
     calls = λ j a t at live. ways_to j t.coord (IsUnderWay w.frames) (IsUnderWay (set_place k (mark f) w.frames)) under
         (z.calls j a t at live);
     trees = z.trees;
+    asked = λ j a t at live x apart on. let q = z.asked j a t at live x apart on in record {
+      post = q.post;
+      frame = has_marked k f (mark f) w.frames q.post there (same q.post) q.frame;
+      from = q.from;
+      to = q.to;
+      asks = q.asks;
+    };
   }
     where
       under : (p : Post) → IsUnderWay w.frames p → IsUnderWay (set_place k (mark f) w.frames) p
@@ -163,7 +172,7 @@ module _ (hd : Header) (form : HeaderInForm hd) (P : Tree → Type 0) (hears : (
       by : (b : Bool) → last.full ≡ b → (cond b last (says (body.Quiet (is_quiet last) ∷ []) last)).full ≡ false →
           Stands (cond b last (says (body.Quiet (is_quiet last) ∷ []) last))
       by true full free = let no_way : true ≡ false = sym full ∙ free in absurd (cc no_way)
-      by false fits free = let s = all fits in record { calls = s.calls; trees = s.trees }
+      by false fits free = let s = all fits in record { calls = s.calls; trees = s.trees; asked = s.asked }
 
   shown_stand : (x : ℕ) (ns : List ℕ) (w : World) → Knows w → Stands w → (show_all x ns w).full ≡ false → Stands (show_all x ns w)
   shown_stand x [] w h z free = z
@@ -194,14 +203,15 @@ module _ (hd : Header) (form : HeaderInForm hd) (P : Tree → Type 0) (hears : (
     where
       by : (o : Option Frame) → at_place k w.frames ≡ o → Stands (lose_frame k w o)
       by None there = z
-      by (Some f) there = let m = marked_stands k as_lost f w there (λ p is. is) z in record { calls = m.calls; trees = m.trees }
+      by (Some f) there = let m = marked_stands k as_lost f w there (λ p is. is) z in record { calls = m.calls; trees = m.trees; asked = m.asked }
 
   junk_stands : (n : ℕ) (w : World) (b : Bool) → Stands w → Stands (junk_fits n w b)
-  junk_stands n w false z = record { calls = z.calls; trees = z.trees }
+  junk_stands n w false z = record { calls = z.calls; trees = z.trees; asked = z.asked }
   junk_stands n w true z = record {
     calls = λ j a t at live. ways_to j t.coord (IsUnderWay w.frames) (IsUnderWay (w.frames ++ new_frame 0 n None ∷ []))
         (more_frames w.frames (new_frame 0 n None ∷ [])) (z.calls j a t at live);
     trees = z.trees;
+    asked = λ j a t at live. asked_more j t.coord w.frames (new_frame 0 n None ∷ []) (z.asked j a t at live);
   }
 
   begun_stands : (g : Giving) (w : World) → Knows w → Stands w → (begins g w).full ≡ false → Stands (begins g w)
@@ -210,7 +220,7 @@ module _ (hd : Header) (form : HeaderInForm hd) (P : Tree → Type 0) (hears : (
       by : (r : Option ℕ) → (steps g.node (input.Begin g.label g.kind g.parent) (labels_unless g w r)).full ≡ false →
           Stands (steps g.node (input.Begin g.label g.kind g.parent) (labels_unless g w r))
       by None free = Stepping.begins_stand hd form P hears begins_so fresh g.node (labels_unless g w None)
-          (record { calls = z.calls; trees = z.trees })
+          (record { calls = z.calls; trees = z.trees; asked = z.asked })
           h.stands.header h.stands.numbers g.label g.kind g.parent free
       by (Some c) free = Stepping.begins_stand hd form P hears begins_so fresh g.node w z h.stands.header h.stands.numbers g.label g.kind g.parent free
 
@@ -239,7 +249,7 @@ module _ (hd : Header) (form : HeaderInForm hd) (P : Tree → Type 0) (hears : (
   happens_stand event.Quiesce a w h none may z free = quiesced_stands w h z free
   happens_stand (event.Crash n) a w h none may z free = plain_stands n input.Crash w h refl tt z free
   happens_stand (event.Restart n) a w h none may z free = plain_stands n input.Restart w h refl tt z free
-  happens_stand (event.Stop n c how) a w h none may z free = record { calls = z.calls; trees = z.trees }
+  happens_stand (event.Stop n c how) a w h none may z free = record { calls = z.calls; trees = z.trees; asked = z.asked }
   happens_stand (event.Junk n bytes) a w h none may z free = junk_stands n w (nat_lt (length w.frames) most_frames) z
   happens_stand (event.Show x) a w h none may z free = shown_stand x (node_numbers w) w h z free
   happens_stand (event.Begin l n) a w h none may z free = begun_stands
