@@ -8,3 +8,4 @@ pub mod lost
 pub mod objects
 pub mod lowest
 pub mod doomed
+pub mod given

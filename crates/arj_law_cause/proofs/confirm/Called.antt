@@ -75,7 +75,7 @@ pub called_more : (ls ks : List Line) (u : Uid) → is_called ls u → is_called
 called_more ls ks u on = subst (λ (B : Book). is_on B.called u ≡ true) (sym (book_more new_book ls ks)) (called_from (book ls) ks u on)
 
 -- a line that calls no commit leaves who was called
-called_back : (ls : List Line) (e : ℕ) (b : Body) (u : Uid) → calls_commit b ≡ false → is_called (ls ++ numbered e (b ∷ [])) u →
+pub called_back : (ls : List Line) (e : ℕ) (b : Body) (u : Uid) → calls_commit b ≡ false → is_called (ls ++ numbered e (b ∷ [])) u →
     is_called ls u
 called_back ls e b u off on = ap (λ us. is_on us u) (sym (ap (λ (B : Book). B.called) (book_more new_book ls (numbered e (b ∷ [])))
     ∙ stays_called (book ls) b off)) ∙ on
@@ -158,11 +158,11 @@ module _ (k : ℕ) (c : Disk) (v : Parts) (N : Seen) (known : Based (up k c v N)
 
 -- ---- effects
 
-abbrev Quiet : List Effect → Type 0
+abbrev pub Quiet : List Effect → Type 0
 Quiet outs = AllByRecursion (SayOf NoCall) outs
 
 -- no effect calls a commit, or the first alone
-abbrev Calls : List Effect → Type 0
+abbrev pub Calls : List Effect → Type 0
 Calls outs = Quiet outs ⊎ ((l : Label) × (rest : List Effect) × (outs ≡ Say (body.Committing l) ∷ rest) × Quiet rest)
 
 -- whom the lines at the end say was called was called before
@@ -225,7 +225,7 @@ walked e k outs v d M sends (inr (l, rest, is, quiet)) w all = subst (λ es. Wal
     behind so walk_on = walked_quiet e k rest v d (seen.said e (body.Committing l ∷ []) M) so.1 quiet walk_on
         (λ p h a there at. asks_more a (actor h.path) M.lines (numbered e (body.Committing l ∷ [])) (all p h a there at))
 
-act_calls : (i : Input) (d : Disk) (c : Coord) → is_act i ≡ true → Calls (acts i d.intents c).outs
+pub act_calls : (i : Input) (d : Disk) (c : Coord) → is_act i ≡ true → Calls (acts i d.intents c).outs
 act_calls i d c is = acts_fine NoCall no_call Calls (λ es q. inl q) c i d.intents
     (λ l how parent same. let no_way : false ≡ true = sym (ap is_act same) ∙ is in cc no_way)
     (λ u q s found now e ends l. end_quiet s.x s.goal e l) (λ u q m found now. marks_quiet q (commit.given_up m).marks)

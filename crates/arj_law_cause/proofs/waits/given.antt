@@ -1,0 +1,2 @@
+-- Why actions are given up.
+pub mod Behind
