@@ -1,2 +1,4 @@
 -- Why actions are given up.
 pub mod Behind
+pub mod Lines
+pub mod Asked

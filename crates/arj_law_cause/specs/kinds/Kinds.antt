@@ -161,3 +161,8 @@ is_met_abort _ = false
 abbrev pub is_old_abort : Body → Bool
 is_old_abort (body.Aborted l (cause.Old n x v)) = true
 is_old_abort _ = false
+
+-- a giveup named a node
+abbrev pub is_node_given_up : Body → Bool
+is_node_given_up (body.GaveUp l n) = true
+is_node_given_up _ = false

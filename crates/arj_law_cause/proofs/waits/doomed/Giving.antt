@@ -58,14 +58,14 @@ all_by n l (k ∷ ks) early =
     one true = λ i. cond (at_most (let e = k.asked in e.at) (early k (inl refl)) i) (k.asked ∷ []) []
     one false = refl
 
-in_drop : {A : Type 0} (n : ℕ) (xs : List A) (y : A) (ys : List A) → n ≤ length xs → In y (drop n (xs ++ y ∷ ys))
+pub in_drop : {A : Type 0} (n : ℕ) (xs : List A) (y : A) (ys : List A) → n ≤ length xs → In y (drop n (xs ++ y ∷ ys))
 in_drop zero [] y ys low = inl refl
 in_drop zero (x ∷ xs) y ys low = inr (in_drop zero xs y ys (omega arith))
 in_drop (suc n) [] y ys low = absurd (omega (arith, low))
 in_drop (suc n) (x ∷ xs) y ys low = in_drop n xs y ys (omega (arith, low))
 
 -- a frame is of a message that was sent
-frame_sent : (sent : List Post) (fs : List Frame) (p : Post) → AllByRecursion (IsSent sent) fs → HasFrame fs p → seen.In p sent
+pub frame_sent : (sent : List Post) (fs : List Frame) (p : Post) → AllByRecursion (IsSent sent) fs → HasFrame fs p → seen.In p sent
 frame_sent sent [] p all has = absurd has
 frame_sent sent (f ∷ fs) p all (inl is) =
     subst (λ i. seen.In (record { from = i; to = p.to; message = p.message }) sent) is.0
