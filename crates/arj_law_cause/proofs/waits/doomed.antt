@@ -11,6 +11,7 @@ pub mod Wanting
 pub mod Stepping
 pub mod Walking
 pub mod Spans
+pub mod Behind
 pub mod Flags
 pub mod Lost
 pub mod Said

@@ -1,4 +1,5 @@
 -- Why actions are given up.
-pub mod Behind
 pub mod Lines
 pub mod Asked
+pub mod Others
+pub mod Running

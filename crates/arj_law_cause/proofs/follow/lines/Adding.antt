@@ -138,7 +138,7 @@ module _ (hd : Header) (form : HeaderInForm hd) where
       pub does : (let b = q.branch in let v = q.parts in doing_of (actor b.path) v.coord) ≡ Some doing
       pub label : doing.label ≡ l
 
-    works_so : (l : Label) (i : Input) (q : Asks l i) → Works l i q
+    pub works_so : (l : Label) (i : Input) (q : Asks l i) → Works l i q
     works_so l i q =
         let v = q.parts in
         let r = named_one hd w s.base.halts s.base.finds (node_of l t) q.node q.there q.parts q.live l q.branch q.named in
@@ -154,25 +154,15 @@ module _ (hd : Header) (form : HeaderInForm hd) where
           label = label_is (let d = one.doing in d.label) l same_name;
         }
 
-    pub giveup_adds : Holds hd KnowsRising w → (l : Label) → Asks l (input.GiveUp l) →
-        Adds (Led (loses l) (own.AreGiveUps l) (node_of l t)) t (steps (node_of l t) (input.GiveUp l) t)
-    giveup_adds rising l q =
+    -- who is given up waits
+    pub given_waits : (l : Label) (q : Asks l (input.GiveUp l)) →
+        (let o = works_so l (input.GiveUp l) q in let d = o.doing in Words.is_waiting_now d.now) ≡ true
+    given_waits l q =
         let o = works_so l (input.GiveUp l) q in
         let u = (let b = q.branch in actor b.path) in
-        let at = node_of l t in
-        node_adds (Led (loses l) (own.AreGiveUps l) at) at (input.GiveUp l) t q.node q.there
-        (subst (Tells (Led (loses l) (own.AreGiveUps l) at) at (let k = q.node in k.disk))
-        (sym (taken_step (input.GiveUp l) q.node q.parts q.live q.free
-        ∙ ap (λ z. input.coord_did q.node q.parts (input.on_branch (λ b. Words.give_up (actor b.path)
-        (let k = q.node in let d = k.disk in d.intents) (let v = q.parts in v.coord)) (let v = q.parts in v.coord) z)) q.named))
-        (subst (λ (x : Label). (let c = Words.give_up (let b = q.branch in actor b.path) (let k = q.node in let d = k.disk in d.intents)
-        (let v = q.parts in v.coord) in Tells (Led (loses x) (own.AreGiveUps x) at) at (let k = q.node in k.disk)
-        (Words.node_did q.node [] (Words.with_coord q.parts c.part) c.outs))) o.label
-        (giveup_tells at q.node q.parts (let b = q.branch in actor b.path) (let k = q.node in let d = k.disk in d.intents) o.doing o.does
-        (rising.holds.1 (node_of l t) q.node q.parts q.there q.live u o.doing o.does)
-        (ap (λ z. Words.is_waiting z) (sym o.does) ∙ (not_not (Words.waits (let v = q.parts in v.coord) u)
+        ap (λ z. Words.is_waiting z) (sym o.does) ∙ (not_not (Words.waits (let v = q.parts in v.coord) u)
         (first_not 8 (not (Words.waits (let v = q.parts in v.coord) u)) [] (first_not 6 (is_some (let b = q.branch in b.ended))
-        ((8, not (Words.waits (let v = q.parts in v.coord) u)) ∷ []) not_refused).1).0)))))
+        ((8, not (Words.waits (let v = q.parts in v.coord) u)) ∷ []) not_refused).1).0)
       where
         not_refused : first_reason ((6, is_some (let b = q.branch in b.ended))
             ∷ (8, not (Words.waits (let v = q.parts in v.coord) (let b = q.branch in actor b.path))) ∷ []) ≡ None
@@ -180,6 +170,34 @@ module _ (hd : Header) (form : HeaderInForm hd) where
             sym (ap (refused_by (λ b d. (6, is_some b.ended) ∷ (8, not (Words.waits d (actor b.path))) ∷ []) (let v = q.parts in v.coord))
             q.named)
             ∙ sym (ap (input.refusal_at t.header (input.GiveUp l)) q.live) ∙ q.free
+
+    -- own lines of a giveup, and then what it loses
+    pub given_adds : (Own : Label → List Body → Type 0) (l : Label) (q : Asks l (input.GiveUp l)) →
+        (let o = works_so l (input.GiveUp l) q in let d = o.doing in
+        Own d.label (Words.map (λ (j : ℕ). body.GaveUp d.label j) (Steps.given_up_of d.now))) →
+        Adds (Led (loses l) (Own l) (node_of l t)) t (steps (node_of l t) (input.GiveUp l) t)
+    given_adds Own l q its =
+        let o = works_so l (input.GiveUp l) q in
+        let at = node_of l t in
+        node_adds (Led (loses l) (Own l) at) at (input.GiveUp l) t q.node q.there
+        (subst (Tells (Led (loses l) (Own l) at) at (let k = q.node in k.disk))
+        (sym (taken_step (input.GiveUp l) q.node q.parts q.live q.free
+        ∙ ap (λ z. input.coord_did q.node q.parts (input.on_branch (λ b. Words.give_up (actor b.path)
+        (let k = q.node in let d = k.disk in d.intents) (let v = q.parts in v.coord)) (let v = q.parts in v.coord) z)) q.named))
+        (subst (λ (x : Label). (let c = Words.give_up (let b = q.branch in actor b.path) (let k = q.node in let d = k.disk in d.intents)
+        (let v = q.parts in v.coord) in Tells (Led (loses x) (Own x) at) at (let k = q.node in k.disk)
+        (Words.node_did q.node [] (Words.with_coord q.parts c.part) c.outs))) o.label
+        (giveup_tells at q.node q.parts (let b = q.branch in actor b.path) (let k = q.node in let d = k.disk in d.intents) o.doing o.does
+        (Own (let d = o.doing in d.label)) its (given_waits l q))))
+
+    pub giveup_adds : Holds hd KnowsRising w → (l : Label) → Asks l (input.GiveUp l) →
+        Adds (Led (loses l) (own.AreGiveUps l) (node_of l t)) t (steps (node_of l t) (input.GiveUp l) t)
+    giveup_adds rising l q =
+        let o = works_so l (input.GiveUp l) q in
+        let u = (let b = q.branch in actor b.path) in
+        given_adds own.AreGiveUps l q
+        (Steps.given_own (node_of l t) q.node q.parts u (let k = q.node in let d = k.disk in d.intents) o.doing o.does
+        (let d = o.doing in d.now) (rising.holds.1 (node_of l t) q.node q.parts q.there q.live u o.doing o.does) (given_waits l q))
 
     -- the lines of what an abort ends
     abbrev pub AreAbortedOf : Label → List Body → Type 0

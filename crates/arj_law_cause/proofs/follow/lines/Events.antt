@@ -79,14 +79,14 @@ module _ (hd : Header) (form : HeaderInForm hd) where
     base : frames.Stands hd form p w
     base = s.base.base
 
-    world_none : (e : Event) → refused_by_any e t ≡ None → first_reason (reasons e t) ≡ None
+    pub world_none : (e : Event) → refused_by_any e t ≡ None → first_reason (reasons e t) ≡ None
     world_none e none = by (first_reason (reasons e t)) none
       where
         by : (o : Option ℕ) → joined o (node_refusal e t) ≡ None → o ≡ None
         by None is = refl
         by (Some c) is = let no_way : ◌≡◌ {A = Option ℕ} (Some c) None = is in absurd (cc no_way)
 
-    node_none : (e : Event) → refused_by_any e t ≡ None → node_refusal e t ≡ None
+    pub node_none : (e : Event) → refused_by_any e t ≡ None → node_refusal e t ≡ None
     node_none e none = by (first_reason (reasons e t)) none
       where
         by : (o : Option ℕ) → joined o (node_refusal e t) ≡ None → node_refusal e t ≡ None

@@ -65,6 +65,12 @@ covers_loses : (l : Label) (b : Body) → works b ≡ true → loses l b ≡ tru
 covers_loses l (body.Aborted m (cause.Lost n)) is = absurd (cc is)
 covers_loses l b is = is
 
+-- the nodes that a giveup names, by what the action is at
+abbrev pub given_up_of : Now → List ℕ
+given_up_of Idle = []
+given_up_of (Calling q) = next_node q ∷ []
+given_up_of (Committing m) = nodes_given_up m
+
 module _ (k : ℕ) (n : Node) (t : Parts) where
   -- an abort says a line for each action that it ends
   pub abort_tells : (Own : List Body → Type 0) (u : Uid) (intents : List (Uid × Intent)) (own : List Body) →
@@ -112,14 +118,15 @@ module _ (k : ℕ) (n : Node) (t : Parts) where
         (moved_commit_work u (commit.given_up (Preparing p left)) intents t.coord (stores_refuse [] (commit.marks_stores left p)))
     commit_such (Confirming p) = lost_commit 1 p
 
-    abbrev Gives : Words.Did Coord → Type 0
-    Gives d = Tells (Led (loses q.label) (AreGiveUps q.label) k) k n.disk (node_did n [] (with_coord t d.part) d.outs)
+    -- what a step says whose own lines are these
+    abbrev GivesOwn : (List Body → Type 0) → Words.Did Coord → Type 0
+    GivesOwn Own d = Tells (Led (loses q.label) Own k) k n.disk (node_did n [] (with_coord t d.part) d.outs)
 
-    gives : (nodes : List ℕ) (d : Words.Did Coord) → Such (loses q.label) d.outs →
-        AreGiveUps q.label (map (λ (m : ℕ). body.GaveUp q.label m) nodes) →
-        Gives (record { part = d.part; outs = gaveup_lines u nodes t.coord ++ d.outs })
-    gives nodes d such its =
-        did_such (loses q.label) (covers_loses q.label) k (AreGiveUps q.label) n (with_coord t d.part)
+    gives : (Own : List Body → Type 0) (nodes : List ℕ) (d : Words.Did Coord) → Such (loses q.label) d.outs →
+        Own (map (λ (m : ℕ). body.GaveUp q.label m) nodes) →
+        GivesOwn Own (record { part = d.part; outs = gaveup_lines u nodes t.coord ++ d.outs })
+    gives Own nodes d such its =
+        did_such (loses q.label) (covers_loses q.label) k Own n (with_coord t d.part)
         (map (λ (m : ℕ). body.GaveUp q.label m) nodes) (gaveup_lines u nodes t.coord ++ d.outs) d.outs
         (ap (λ es. es ++ d.outs) (gaveup_said nodes)) such its
 
@@ -132,17 +139,26 @@ module _ (k : ℕ) (n : Node) (t : Parts) where
         by (j ∷ ns) up some = all_given j ns up
     nodes_rise (Confirming p) rise = refl
 
-    pub giveup_tells : IsRising q.now → is_waiting_now q.now ≡ true → Gives (give_up u intents t.coord)
-    giveup_tells rise waits = subst (λ o. Gives (give_up_doing u intents t.coord o)) (sym does) (now q.now rise waits)
+    -- so it is of rising nodes
+    pub given_own : (z : Now) → IsRising z → is_waiting_now z ≡ true →
+        AreGiveUps q.label (map (λ (j : ℕ). body.GaveUp q.label j) (given_up_of z))
+    given_own Idle rise waits = absurd (cc waits)
+    given_own (Calling s) rise waits = refl
+    given_own (Committing m) rise waits = nodes_rise m rise
+
+    pub giveup_tells : (Own : List Body → Type 0) → Own (map (λ (j : ℕ). body.GaveUp q.label j) (given_up_of q.now)) →
+        is_waiting_now q.now ≡ true → GivesOwn Own (give_up u intents t.coord)
+    giveup_tells Own its waits = subst (λ o. GivesOwn Own (give_up_doing u intents t.coord o)) (sym does) (now q.now its waits)
       where
-        now : (m : Now) → IsRising m → is_waiting_now m ≡ true → Gives (gives_up u intents t.coord m)
-        now Idle rise waits = absurd (cc waits)
-        now (Calling s) rise waits =
+        now : (m : Now) → Own (map (λ (j : ℕ). body.GaveUp q.label j) (given_up_of m)) → is_waiting_now m ≡ true →
+            GivesOwn Own (gives_up u intents t.coord m)
+        now Idle its waits = absurd (cc waits)
+        now (Calling s) its waits =
             let d = give_up_call s t.coord in
-            gives (next_node s ∷ []) d (such_work (loses q.label) (covers_loses q.label) d.outs
-            (step_call_work s (given_up s.at) (on_root (root_of s.path) (root_lost s (given_up s.at)) t.coord))) refl
-        now (Committing m) rise waits =
-            gives (nodes_given_up m) (moved_commit u (commit.given_up m) intents t.coord) (commit_such m) (nodes_rise m rise)
+            gives Own (next_node s ∷ []) d (such_work (loses q.label) (covers_loses q.label) d.outs
+            (step_call_work s (given_up s.at) (on_root (root_of s.path) (root_lost s (given_up s.at)) t.coord))) its
+        now (Committing m) its waits =
+            gives Own (nodes_given_up m) (moved_commit u (commit.given_up m) intents t.coord) (commit_such m) its
 
   -- calls and includes ask
   pub call_tells : (b : Branch) (x : ℕ) (o : Op) → (let d = call b.path x o t.coord in

@@ -47,6 +47,7 @@ use Rattle.arj_law_cause.proofs.waits.waiting.Acting as acting
 use Rattle.arj_law_cause.proofs.waits.waiting.Running as running
 use Rattle.arj_law_cause.proofs.waits.waiting.Running.{Leaves, Ran, Stopped}
 use Rattle.arj_law_cause.proofs.waits.doomed.Asking.{AreUnderWay}
+use Rattle.arj_law_cause.proofs.waits.doomed.Behind.{BasedBehind, behind_keep}
 use Rattle.arj_law_cause.proofs.waits.doomed.Flags.{Flags, flags_begun, flags_doomed, flags_ended, flags_new, flags_uses}
 use Rattle.arj_law_cause.proofs.waits.doomed.Giving as giving
 use Rattle.arj_law_cause.proofs.waits.doomed.Lost.{IsDoomedSo, doomed_next}
@@ -391,6 +392,7 @@ module _ (hd : Header) (form : HeaderInForm hd) where
             record {
               base = stands;
               all = move_with hd Both (lined_keep hd) m x.0 w s.all;
+              commits = move_with hd BasedBehind (behind_keep hd) m x.0 w s.commits;
               known = move_asked hd (λ M. AllKnown hd M × IsGood M) known_keep m w s.known;
               binds = move_asked hd (λ M. IsGood M × BindsAreKnown M) binds_kept m w s.binds;
               ways = λ free. ways_on m x.0 p w stops s on bodies free after.lines;
@@ -415,6 +417,17 @@ module _ (hd : Header) (form : HeaderInForm hd) where
         number = refl;
         wrote = ([], refl);
         holds = (let k = lined_keep hd in k.first st formed);
+      };
+      count = refl;
+      lines = λ over. refl;
+    };
+    commits = record {
+      now = record {
+        sent = [];
+        stands = first_places hd st;
+        number = refl;
+        wrote = ([], refl);
+        holds = (let k = behind_keep hd in k.first st formed);
       };
       count = refl;
       lines = λ over. refl;

@@ -10,6 +10,7 @@ use Rattle.arj_law_promise.proofs.settling.Waiting.{AllKnown}
 use Rattle.arj_journal.specs.ScriptForm.{HeaderInForm}
 use Rattle.arj_model.specs.Past.{Past}
 use Rattle.arj_law_cause.proofs.follow.causes.Turning.{of_heard}
+use Rattle.arj_law_cause.proofs.waits.doomed.Behind.{BasedBehind}
 use Rattle.arj_law_cause.proofs.waits.doomed.Flags.{Flags, flags_begun, flags_ended, flags_new}
 use Rattle.arj_law_cause.proofs.waits.doomed.Lost.{IsDoomedSo}
 use Rattle.arj_law_cause.proofs.waits.doomed.Spans.{Both}
@@ -35,6 +36,7 @@ module _ (hd : Header) (form : HeaderInForm hd) where
   pub record Stands (g : History) (p : Past) (w : World) : Type 0 where
     pub base : running.Stands hd form g p w
     pub all : HoldsWith hd Both g w
+    pub commits : HoldsWith hd BasedBehind g w
     pub known : Holds hd (λ M. AllKnown hd M × IsGood M) w
     pub binds : Holds hd (λ M. IsGood M × BindsAreKnown M) w
     pub ways : w.over ≡ false → Ways (λ u. IsDoomedSo p.accepted p.lines u) w

@@ -16,7 +16,6 @@ use Words.message
 use Rattle.arj_law_parts.proofs.parts.Numbered.{AreUp}
 use Rattle.arj_law_parts.specs.moves.Moments.{Asking, History}
 use Rattle.arj_law_parts.specs.moves.Seen as seen
-use Rattle.arj_law_parts.specs.moves.With.{HoldsWith}
 use Rattle.arj_law_runs.proofs.Terms
 use Terms.{AsksFor, IsNumbered, Want, found_by, want_of_call, want_of_commit}
 use Rattle.arj_law_runs.specs.journal.Book.{new_book}
@@ -32,12 +31,13 @@ use Rattle.arj_law_lock_view.specs.asking.Turns.{calling}
 use Rattle.arj_law_cause.proofs.confirm.Called.{is_called}
 use Rattle.arj_law_cause.proofs.confirm.Spans as spans
 use Rattle.arj_law_cause.proofs.follow.lines.Rising.{IsRising}
+use Rattle.arj_law_cause.proofs.follow.lines.Steps.{given_up_of}
 use Rattle.arj_law_cause.proofs.waits.doomed.Giving.{frame_sent}
 use Rattle.arj_law_cause.proofs.waits.doomed.Spans.{AreLined, IsLined}
 use Rattle.arj_law_cause.proofs.waits.doomed.Standing.{Stands}
 use Rattle.arj_law_cause.proofs.waits.doomed.Wanting as wanting
 use Rattle.arj_law_cause.proofs.waits.doomed.Wanting.{IsAskedBy, Waits}
-use Rattle.arj_law_cause.proofs.waits.given.Behind.{AreBehind, BasedBehind, IsBehind, is_of_commit}
+use Rattle.arj_law_cause.proofs.waits.doomed.Behind.{IsBehind, is_of_commit}
 use Rattle.arj_law_cause.proofs.waits.given.Lines as given
 use Rattle.arj_law_cause.proofs.waits.given.Lines.{MayWait, call_place, of_calls, of_commits}
 use Rattle.arj_law_cause.proofs.waits.waiting.Acting as acting
@@ -111,12 +111,6 @@ machine_kind (Confirming p) n = refl
 
 -- ---- nodes that a giveup names
 
--- those of what an action is at
-abbrev pub given_up_of : Now → List ℕ
-given_up_of Idle = []
-given_up_of (Calling q) = next_node q ∷ []
-given_up_of (Committing m) = nodes_given_up m
-
 pub given_rise : (z : Now) → IsRising z → AreUp (given_up_of z)
 given_rise Idle rise = tt
 given_rise (Calling q) rise = (tt, tt)
@@ -151,7 +145,7 @@ given_left (Confirming p) rise j (inr i) = absurd i
 -- ---- one action
 
 module _ (hd : Header) (form : HeaderInForm hd) (g : History) (p : Past) (w : World) (s : Stands hd form g p w) (on : w.over ≡ false)
-    (b : HoldsWith hd BasedBehind g w) (k : ℕ) (n : Node) (t : Parts) (there : at_place k w.nodes ≡ Some n) (live : n.live ≡ Some t)
+    (k : ℕ) (n : Node) (t : Parts) (there : at_place k w.nodes ≡ Some n) (live : n.live ≡ Some t)
     (u : Uid) (d : Doing) (does : doing_of u t.coord ≡ Some d) (accepted : List AskedOf) (same : AreAsked accepted g.askings) where
   pub f : acting.Stands (let h = s.base.base.halts in see h.sent w) (let h = s.base.base.halts in h.holds) k n t there live u d
   f = acting.stands (let h = s.base.base.halts in see h.sent w) (let h = s.base.base.halts in h.holds) k n t there live u d does
@@ -180,7 +174,7 @@ module _ (hd : Header) (form : HeaderInForm hd) (g : History) (p : Past) (w : Wo
         (frame_sent h.sent w.frames way.post h.stands.frames way.frame) asking.is)
 
     behind : is_of_commit asking.ask ≡ true → IsBehind w.lines way.post (actor (let h = asking.head in h.path))
-    behind of = let h = b.now in
+    behind of = let h = s.commits.now in
         ⊎_elim (λ is. absurd (other is)) (λ l. l)
         (h.holds.1 way.post asking.head asking.ask (frame_sent h.sent w.frames way.post h.stands.frames way.frame) asking.is of)
 
