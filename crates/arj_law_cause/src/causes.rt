@@ -1,5 +1,5 @@
 // Rows of causes: lines of the world, and what nodes do.
-ghost use Rattle.arj_law_cause.specs.kinds.Kinds.{is_abort_done, is_armed, is_bare_abort, is_commit_done, is_committed, is_copy_shown, is_denial, is_dropped, is_entry_shown, is_found, is_got, is_granted_object, is_granted_entry, is_halted, is_limit, is_listed_abort, is_lost_commit, is_met_abort, is_old_abort, is_opening, is_plain_refusal, is_prepared, is_quiet, is_sent, is_told, is_up, is_void};
+ghost use Rattle.arj_law_cause.specs.kinds.Kinds.{is_abort_done, is_armed, is_bare_abort, is_commit_done, is_committed, is_copy_shown, is_denial, is_dropped, is_entry_shown, is_found, is_got, is_granted_object, is_granted_entry, is_halted, is_limit, is_listed_abort, is_lost_commit, is_met_abort, is_node_given_up, is_old_abort, is_opening, is_plain_refusal, is_prepared, is_quiet, is_sent, is_told, is_up, is_void};
 ghost use Rattle.arj_law_cause.specs.kinds.Rows.{RowHolds, RowHoldsWhere, TestHolds};
 ghost use Rattle.arj_law_cause.specs.kinds.Tests.{is_granted_so, is_committed_so, is_old_so};
 
@@ -96,6 +96,13 @@ pub fn locks_on_objects_are_free()
 /// a line of the event says that it gave up the node. It does nothing when it runs.
 pub fn lost_commits_have_causes()
     ensures lost { RowHolds is_lost_commit }
+{}
+
+/// In every such run a line that an action was given up stands in an event that gives it up, and names a node for which the action may wait
+/// by the lines before: its own, or one that was sent a request of its call or include since that was asked, or of its commit since that was
+/// called; and the nodes of one event rise. It does nothing when it runs.
+pub fn giveups_have_causes()
+    ensures given { RowHolds is_node_given_up }
 {}
 
 /// In every such run a commit that is under way is aborted for a store that is listed where the action includes the store, doesn't exclude

@@ -37,11 +37,12 @@ use Rattle.arj_law_cause.proofs.kinds.Up.{up_row}
 use Rattle.arj_law_cause.proofs.rows.Whole.{answers_are_caused}
 use Rattle.arj_law_cause.proofs.told.Joined.{journals_follow}
 use Rattle.arj_law_cause.proofs.told.Together.{AreInside, step_inside, together}
+use Rattle.arj_law_cause.proofs.waits.given.Running.{given_row}
 use Rattle.arj_law_cause.proofs.votes.Prepared.{prepared_row}
 use Rattle.arj_law_cause.specs.kinds.Kinds.{is_abort_done, is_active, is_armed, is_bare_abort, is_bound, is_commit_done, is_committed}
 use Rattle.arj_law_cause.specs.kinds.Kinds.{is_copy_shown, is_denial, is_dropped, is_entry_shown, is_found, is_got}
 use Rattle.arj_law_cause.specs.kinds.Kinds.{is_granted_entry, is_granted_object, is_halted, is_limit, is_listed_abort, is_lock_lowered}
-use Rattle.arj_law_cause.specs.kinds.Kinds.{is_lost_commit, is_met_abort, is_old_abort, is_opening, is_prepared, is_quiet, is_sent, is_told}
+use Rattle.arj_law_cause.specs.kinds.Kinds.{is_lost_commit, is_met_abort, is_node_given_up, is_old_abort, is_opening, is_prepared, is_quiet, is_sent, is_told}
 use Rattle.arj_law_cause.specs.kinds.Kinds.{is_up, is_void}
 use Rattle.arj_law_cause.specs.kinds.Rows.{row, tested}
 use Rattle.arj_law_cause.specs.kinds.Tests.{is_committed_so, is_granted_so, is_old_so}
@@ -138,7 +139,7 @@ others =
     ∷ []
 
 abbrev tests : List Test
-tests = tested is_old_so (λ h. is_old_abort) ∷ others
+tests = row (λ h. is_node_given_up) ∷ tested is_old_so (λ h. is_old_abort) ∷ others
 
 module _ (hd : Header) (r : Run hd) (form : IsInForm hd r) where
   abbrev Its : Test → Type 0
@@ -230,7 +231,7 @@ module _ (hd : Header) (r : Run hd) (form : IsInForm hd r) where
   )
 
   all_known : AllByRecursion Its tests
-  all_known = ((λ h c. refl, old_test hd r form), others_known)
+  all_known = ((λ h c. refl, given_row hd r form), ((λ h c. refl, old_test hd r form), others_known))
 
 -- what a line passes says why it stands
 why : (h : Here) (b : Body) → all_of tests h b ≡ true → is_told_why h b ≡ true
@@ -269,7 +270,7 @@ why h (body.Changed l n d) is = (and_parts (answer_fits h (body.Changed l n d)) 
 why h (body.Committed l) is = (and_parts (is_committed_so h (body.Committed l)) true is).0
 why h (body.Aborted l (cause.Changed n d)) is = refl
 why h (body.Aborted l (cause.Old n x v)) is = (and_parts (is_old_so h (body.Aborted l (cause.Old n x v))) true is).0
-why h (body.GaveUp l n) is = refl
+why h (body.GaveUp l n) is = (and_parts (is_told_why h (body.GaveUp l n)) true is).0
 why h (body.Excluded l x n) is = refl
 why h (body.Prepared n u r) is = (and_parts (is_told_why h (body.Prepared n u r)) true is).0
 why h (body.Told n u e p) is = (and_parts (is_told_why h (body.Told n u e p)) true is).0

@@ -21,7 +21,6 @@ is_told_why h (body.Changed l n d) = answer_fits h (body.Changed l n d)
 is_told_why h (body.Committed l) = is_committed_so h (body.Committed l)
 is_told_why h (body.Aborted l (cause.Changed n d)) = true
 is_told_why h (body.Aborted l (cause.Old n x v)) = is_old_so h (body.Aborted l (cause.Old n x v))
-is_told_why h (body.GaveUp l n) = true
 is_told_why h (body.Excluded l x n) = true
 is_told_why h (body.Granted n u o mode) = is_entry o && is_restart h.event || has_cause h (body.Granted n u o mode)
 is_told_why h b = has_cause h b
