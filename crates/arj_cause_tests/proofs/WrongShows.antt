@@ -1,4 +1,4 @@
--- Shows behind a start that isn't fresh, and ends that nodes are told of: which lines of a kind don't pass the test of their row.
+-- Shows behind a start that isn't fresh, ends that nodes are told of, and nodes that are given up: which lines of a kind don't pass the test of their row.
 use Rattle.std.specs.Prelude.{◌≡◌, ◌+◌, ◌++◌, ℕ, Bool, List, [], ◌∷◌, length, refl, if◌then◌else◌}
 use Rattle.arj_base.specs.declared.mode.End.TheVariants.{Abort, Commit}
 use Rattle.arj_class.specs.declared.value.Value.TheVariants as value
@@ -12,10 +12,11 @@ use Rattle.arj_model.specs.CauseSpans.{Here, behind, here_at}
 use Rattle.arj_model.specs.Caused.{has_cause}
 use Rattle.arj_model.specs.Past.{Past, at_start, next}
 use Rattle.arj_start.specs.Start.{Start, fresh}
-use Rattle.arj_law_cause.specs.kinds.Kinds.{is_abort_done, is_copy_shown, is_entry_shown, is_told}
+use Rattle.arj_law_cause.specs.kinds.Kinds.{is_abort_done, is_copy_shown, is_entry_shown, is_node_given_up, is_told}
 use Rattle.arj_law_cause.specs.kinds.Rows.{tested}
-use Rattle.arj_cause_tests.proofs.Words.{Run, Wrote, after, instead, lacking, nodes, object_line, run, u}
-use Rattle.arj_cause_tests.proofs.Worked.{conflict, exclusion, lost_lock, nested_abort, rebinding}
+use Rattle.arj_cause_tests.proofs.Words.{Run, Wrote, after, instead, l, lacking, nodes, object_line, run, u, without}
+use Rattle.arj_cause_tests.proofs.Worked.{conflict, exclusion, lost_lock, nested_abort, no_store_left, rebinding}
+use Rattle.arj_cause_tests.proofs.Rarer.{conflict_pending}
 
 -- the places of those lines of an event that don't pass a test, from 1
 abbrev pub failing_in : (Here → Body → Bool) → Here → List Body → List ℕ
@@ -42,6 +43,10 @@ copies = failing has_cause is_copy_shown
 
 abbrev tolds : Run → List ℕ
 tolds = failing has_cause is_told fresh
+
+-- nodes that giveups name without their cause
+abbrev givens : Run → List ℕ
+givens = failing has_cause is_node_given_up fresh
 
 -- aborts that are done without their cause
 abbrev undone : Run → List ℕ
@@ -134,6 +139,35 @@ told_nothing = refl
 
 told_no_entry : tolds (after 26 (body.Told 2 (u 1 1 1) Abort part.Naming ∷ []) lost_lock) ≡ 27 ∷ []
 told_no_entry = refl
+
+-- ---- giveups
+
+givens_so : givens rebinding ++ (givens exclusion ++ (givens no_store_left ++ givens conflict_pending)) ≡ []
+givens_so = refl
+
+-- of another action; a node that wasn't asked; what asked it left out
+given_action : givens (instead 14 (body.GaveUp (l 65) 2) rebinding) ≡ 14 ∷ []
+given_action = refl
+
+given_node : givens (instead 14 (body.GaveUp (l 78) 3) rebinding) ≡ 14 ∷ []
+given_node = refl
+
+given_unasked : givens (without 5 (without 12 rebinding)) ≡ 12 ∷ []
+given_unasked = refl
+
+-- of a commit: a store that wasn't asked, twice the same, and not rising
+given_store : givens (without 14 exclusion) ≡ 19 ∷ []
+given_store = refl
+
+given_twice : givens (after 20 (body.GaveUp (l 65) 3 ∷ []) exclusion) ≡ 21 ∷ []
+given_twice = refl
+
+given_falling : givens (instead 15 (body.GaveUp (l 65) 3) (instead 16 (body.GaveUp (l 65) 2) no_store_left)) ≡ 16 ∷ []
+given_falling = refl
+
+-- its own node needs no frame
+given_own : givens (instead 14 (body.GaveUp (l 78) 1) rebinding) ≡ []
+given_own = refl
 
 undone_so : undone nested_abort ++ (undone conflict ++ (undone exclusion ++ undone rebinding)) ≡ []
 undone_so = refl

@@ -10,7 +10,7 @@ use Words.ask
 use Words.body
 use Words.commit
 use Rattle.arj_law_parts.specs.moves.Keeps.{KeepsAsked, Keeps, is_act}
-use Rattle.arj_law_parts.specs.moves.Seen.{In, Within, given, up}
+use Rattle.arj_law_parts.specs.moves.Seen.{In, given, up}
 use Rattle.arj_law_parts.specs.moves.Seen as seen
 use Rattle.arj_law_parts.specs.moves.Walks.{Up, Walks}
 use Rattle.arj_law_parts.proofs.moves.Happens.{keeps_asked}

@@ -1,10 +1,10 @@
 -- Each line of a journal says why it stands: what laws say of its kinds, one by one, holds of it together.
 use Rattle.arj_law_parts.proofs.Words
-use Words.{◌≡◌, ◌&&◌, ◌||◌, not, ℕ, Bool, true, false, List, [], ◌∷◌, refl, sym, ap, and_parts, AllByRecursion, Body, Event, Header, Line, Uid, journal_by}
+use Words.{◌≡◌, ◌&&◌, ◌||◌, not, ℕ, Bool, true, false, List, [], ◌∷◌, refl, and_parts, AllByRecursion, Body, Event, Header, Line}
+use Words.{journal_by}
 use Words.body
 use Words.cause
 use Words.ending
-use Rattle.arj_base.specs.declared.mode.Mode.{Mode}
 use Rattle.arj_law_runs.specs.follow.Frames.{are_so, run_events}
 use Rattle.arj_model.specs.CauseLocks.{is_restart}
 use Rattle.arj_model.specs.CauseSpans.{Here, behind, here_at}
@@ -42,7 +42,8 @@ use Rattle.arj_law_cause.proofs.votes.Prepared.{prepared_row}
 use Rattle.arj_law_cause.specs.kinds.Kinds.{is_abort_done, is_active, is_armed, is_bare_abort, is_bound, is_commit_done, is_committed}
 use Rattle.arj_law_cause.specs.kinds.Kinds.{is_copy_shown, is_denial, is_dropped, is_entry_shown, is_found, is_got}
 use Rattle.arj_law_cause.specs.kinds.Kinds.{is_granted_entry, is_granted_object, is_halted, is_limit, is_listed_abort, is_lock_lowered}
-use Rattle.arj_law_cause.specs.kinds.Kinds.{is_lost_commit, is_met_abort, is_node_given_up, is_old_abort, is_opening, is_prepared, is_quiet, is_sent, is_told}
+use Rattle.arj_law_cause.specs.kinds.Kinds.{is_lost_commit, is_met_abort, is_node_given_up, is_old_abort, is_opening, is_prepared}
+use Rattle.arj_law_cause.specs.kinds.Kinds.{is_quiet, is_sent, is_told}
 use Rattle.arj_law_cause.specs.kinds.Kinds.{is_up, is_void}
 use Rattle.arj_law_cause.specs.kinds.Rows.{row, tested}
 use Rattle.arj_law_cause.specs.kinds.Tests.{is_committed_so, is_granted_so, is_old_so}

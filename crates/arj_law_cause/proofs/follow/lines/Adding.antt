@@ -8,11 +8,8 @@ use Words.{steps, uid_at, Move, acts}
 use Words.body
 use Words.cause
 use Words.event
-use Words.frame
 use Words.frame_no
 use Words.input
-use Words.kind
-use Rattle.arj_law_runs.proofs.Terms.which
 use Rattle.arj_law_runs.proofs.Terms.{Act, Holds, IsMemory, IsUp, act_in, option_map}
 use Rattle.arj_law_runs.proofs.Terms as terms
 use Rattle.arj_law_parts.proofs.moves.Reasons.{first_not, not_not}

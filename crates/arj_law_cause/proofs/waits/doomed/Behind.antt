@@ -1,10 +1,10 @@
 -- Each request of a commit that went to another node has its line behind the call of the commit.
 use Rattle.arj_law_parts.proofs.Words
-use Words.{◌≡◌, ◌⊎◌, ◌∙◌, ◌+◌, ◌++◌, ◌==◌, ⊤, ℕ, Bool, true, false, cond, if◌then◌else◌, List, [], ◌∷◌, Option, Some, None, refl, sym, ap, subst}
-use Words.{inl, inr, ⊎_elim, append_assoc, eqb-true, AllByRecursion, Ask, Body, Head, Header, Label, Line, Uid, asks, actor, frame_kind}
-use Words.{again_all, begin_action, tick_outs, Doing, doing_of, Do, Disk, Effect, Say, Send, worked, Parts, with_coord, acts, Calling, Committing}
-use Words.{Idle, Now, Machine, Steps, Goal, At, AtActivate, AtBind, AtInvoke, AtLoad, AtNote, ask_at, next_ask, parent_of, parts_in}
-use Words.{restart_outs, is_serial, numbered, Post, Took, handle}
+use Words.{◌≡◌, ◌⊎◌, ◌∙◌, ◌+◌, ◌++◌, ◌==◌, ⊤, ℕ, Bool, true, false, if◌then◌else◌, List, [], ◌∷◌, Some, refl, sym, ap, subst}
+use Words.{inl, inr, ⊎_elim, append_assoc, eqb-true, AllByRecursion, Ask, Body, Head, Header, Line, Uid, asks, actor, frame_kind}
+use Words.{again_all, begin_action, tick_outs, Do, Disk, Effect, Say, Send, worked, Parts, with_coord, acts, Calling, Committing}
+use Words.{Idle, Now, Goal, At, AtActivate, AtBind, AtInvoke, AtLoad, AtNote, ask_at, parent_of, parts_in}
+use Words.{restart_outs, is_serial, numbered, Post}
 use Words.ask
 use Words.body
 use Words.commit

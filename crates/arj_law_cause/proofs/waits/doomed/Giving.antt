@@ -1,6 +1,6 @@
 -- A call that waits for its operation and is given up dooms its action by the journal.
 use Rattle.arj_law_parts.proofs.Words
-use Words.{◌≡◌, ◌⊎◌, ◌∙◌, ◌+◌, ◌++◌, ◌==◌, ◌&&◌, ◌||◌, ◌≤◌, ℕ, zero, suc, Bool, true, false, cond, if◌then◌else◌, List, [], ◌∷◌, filter}
+use Words.{◌≡◌, ◌⊎◌, ◌∙◌, ◌+◌, ◌++◌, ◌==◌, ◌&&◌, ◌≤◌, ℕ, zero, suc, Bool, true, false, cond, List, [], ◌∷◌, filter}
 use Words.{length, Option, Some}
 use Words.{refl, sym, ap, subst, inl, inr, ⊎_elim, arith, nat_tests, nat_le, AllByRecursion, append-nil, append_assoc, filter-append}
 use Words.{length-append, list_any, bytes_eq-Decides}
@@ -9,7 +9,6 @@ use Words.{is_serial, Doing, doing_of, Calling, Steps, At, AtActivate, AtBind, A
 use Words.{at_place, kept_at, Branch, Node, Parts, Frame, Post, World, see}
 use Words.body
 use Words.calls
-use Words.event
 use Words.frame
 use Words.kind
 use Words.list

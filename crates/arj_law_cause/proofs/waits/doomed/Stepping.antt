@@ -195,8 +195,7 @@ module _ (hd : Header) (form : HeaderInForm hd) (P : Tree → Type 0) (hears : (
               let same : k ≡ n = eqb-true k n e in
               let one : b ≡ x = some_is b x (sym (place_same n b a w.nodes there) ∙ ap (λ j. at_place j (set_place n b w.nodes)) (sym same)
               ∙ found) in
-              let r = its t (ap (λ (y : Node). y.live) one ∙ live) in
-              (
+              let r = its t (ap (λ (y : Node). y.live) one ∙ live) in (
                 subst (λ j. AreUnderWay j t.coord (IsUnderWay (frames_with w.frames (sends n outs)))) (sym same) r.0,
                 r.1,
                 subst (λ j. AreAsked j t.coord (frames_with w.frames (sends n outs))) (sym same) r.2,

@@ -1,21 +1,18 @@
 -- An action that is given up may wait, by the journal, for each node that the giveup names: it is its own, or its request went there in the
 -- span of what it waits for.
 use Rattle.arj_law_parts.proofs.Words
-use Words.{◌≡◌, ◌⊎◌, ◌∙◌, ◌+◌, ◌++◌, ◌==◌, ◌&&◌, ◌||◌, ◌≤◌, ℕ, zero, suc, Bool, true, false, if◌then◌else◌, List, [], ◌∷◌, length, Option, Some, None}
-use Words.{refl, sym, ap, subst, inl, inr, ⊎_elim, arith, nat_tests, nat_le, list_any, eqb-true, and_parts, In, Ask, Body, Event, Head, Header, Line}
+use Words.{◌≡◌, ◌⊎◌, ◌∙◌, ◌==◌, ◌&&◌, ◌||◌, ◌≤◌, ℕ, Bool, true, false, if◌then◌else◌, List, [], ◌∷◌, length, Option, Some, None}
+use Words.{refl, sym, ap, subst, inl, inr, ⊎_elim, arith, nat_tests, nat_le, list_any, eqb-true, and_parts, In, Ask, Body, Head, Header}
 use Words.{Message, Uid, Asked, asks, actor, ask_kind, frame_kind, name, is_empty, At, AtActivate, AtBind, AtInvoke, AtLoad, AtNote, Goal}
-use Words.{Calling, Committing, Idle, Now, Doing, doing_of, Steps, Machine, Confirming, Preparing, Voting, ask_at, ask_of, left_of, has, next_ask}
-use Words.{next_node, nodes_given_up, at_place, Node, Parts, Post, World, see, is_waiting_now, is_committing_now}
+use Words.{Calling, Committing, Idle, Now, Doing, doing_of, Steps, Machine, Confirming, Preparing, Voting, ask_at, ask_of, left_of, has}
+use Words.{next_node, nodes_given_up, at_place, Node, Parts, World, see, is_waiting_now, is_committing_now}
 use Words.ask
 use Words.body
 use Words.commit
 use Words.event
-use Words.frame
-use Words.list
 use Words.message
 use Rattle.arj_law_parts.proofs.parts.Numbered.{AreUp}
-use Rattle.arj_law_parts.specs.moves.Moments.{Asking, History}
-use Rattle.arj_law_parts.specs.moves.Seen as seen
+use Rattle.arj_law_parts.specs.moves.Moments.{History}
 use Rattle.arj_law_runs.proofs.Terms
 use Terms.{AsksFor, IsNumbered, Want, found_by, want_of_call, want_of_commit}
 use Rattle.arj_law_runs.specs.journal.Book.{new_book}
@@ -25,8 +22,8 @@ use Rattle.arj_journal.specs.declared.body.FrameKind.{FrameKind}
 use Rattle.arj_model.specs.Calls.{committings}
 use Rattle.arj_model.specs.CauseSpans.{Here, commit_here, here_at, is_frame, same_frame}
 use Rattle.arj_model.specs.Past.{Asked as AskedOf, Past}
-use Rattle.arj_model.specs.Refusals.{has_ended, is_committing, last_asked, unanswered}
-use Rattle.arj_law_lock_view.specs.asking.Asked.{IsAskedSo, IsTied, count_answers, count_asks}
+use Rattle.arj_model.specs.Refusals.{has_ended, is_committing}
+use Rattle.arj_law_lock_view.specs.asking.Asked.{IsAskedSo, IsTied}
 use Rattle.arj_law_lock_view.specs.asking.Turns.{calling}
 use Rattle.arj_law_cause.proofs.confirm.Called.{is_called}
 use Rattle.arj_law_cause.proofs.confirm.Spans as spans
@@ -71,7 +68,8 @@ commit_frame : (m : Message) (h : Head) (a : Ask) → asks m ≡ Some (h, a) →
     list_any (same_frame (frame_kind m)) of_commits ≡ true
 commit_frame m h a is high = by m is
   where
-    apart : {B : Type 0} (g : Head) (b : Ask) → nat_le 6 (ask_kind b) ≡ false → ◌≡◌ {A = Option (Head × Ask)} (Some (g, b)) (Some (h, a)) → B
+    apart : {B : Type 0} (g : Head) (b : Ask) → nat_le 6 (ask_kind b) ≡ false → ◌≡◌ {A = Option (Head × Ask)} (Some (g, b)) (Some (h, a))
+        → B
     apart g b low same =
         let one : ◌≡◌ {A = Head × Ask} (g, b) (h, a) = cc same in
         absurd (cc (sym low ∙ ap (λ (x : Head × Ask). nat_le 6 (ask_kind x.1)) one ∙ high))
@@ -247,7 +245,8 @@ module _ (hd : Header) (form : HeaderInForm hd) (g : History) (p : Past) (w : Wo
         ∙ ap is_committing_now now
 
     right : AreRight new_book w.lines
-    right = let v = acting.written (let h = s.base.base.halts in see h.sent w) (let h = s.base.base.halts in h.holds) k n t there live in v.right
+    right = let v = acting.written (let h = s.base.base.halts in see h.sent w) (let h = s.base.base.halts in h.holds) k n t there live in
+        v.right
 
     commit_may : (j ≡ k → ⊥) → MayWait accepted w.lines (name d.label) f.act j
     commit_may apart = given.Commits place.0 under called_at (record {
@@ -280,7 +279,8 @@ module _ (hd : Header) (form : HeaderInForm hd) (g : History) (p : Past) (w : Wo
 
         place : (c : ℕ) × (commit_here (record (here_at hd p event.Settle []) { lines = w.lines }) (name d.label) ≡ Some c)
             × (c ≤ length l.before)
-        place = spans.place (record (here_at hd p event.Settle []) { lines = w.lines }) (name d.label) l.before (l.line ∷ l.after) l.are right
+        place = spans.place (record (here_at hd p event.Settle []) { lines = w.lines }) (name d.label) l.before (l.line ∷ l.after) l.are
+            right
             f.act f.named under (subst (is_called l.before) (act_is ∙ sym f.uid) l.called)
 
         called_at : call_place (committings w.lines) (name d.label) ≡ Some place.0

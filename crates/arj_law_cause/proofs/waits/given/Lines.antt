@@ -1,11 +1,11 @@
 -- Lines of a giveup have their causes, where by the journal before them each node is one that the action may wait for.
 use Rattle.arj_law.proofs.Reading.{read-append}
 use Rattle.arj_law_parts.proofs.Words
-use Words.{◌≡◌, ◌∙◌, ◌+◌, ◌<◌, ◌≤◌, ◌++◌, ◌==◌, ◌&&◌, ◌||◌, not, ℕ, zero, suc, Bool, true, false, if◌then◌else◌, List, [], ◌∷◌, map, length}
-use Words.{append_assoc, append-nil, find, list_all, list_any, nat_lt, Option, Some, None, option_map, refl, sym, ap, subst, arith, nat_tests}
-use Words.{AllByRecursion, In, inl, inr, bytes_eq, bytes_eq-Decides, Body, Label, Line, name, numbered, or_right}
+use Words.{◌≡◌, ◌∙◌, ◌+◌, ◌<◌, ◌≤◌, ◌++◌, ◌==◌, ◌&&◌, ◌||◌, not, ℕ, Bool, true, false, if◌then◌else◌, List, [], ◌∷◌, map, length}
+use Words.{append_assoc, append-nil, find, list_all, list_any, nat_lt, Option, Some, None, option_map, refl, sym, ap, subst, arith}
+use Words.{nat_tests}
+use Words.{AllByRecursion, In, inl, inr, bytes_eq, Body, Label, Line, name, numbered, or_right}
 use Words.body
-use Words.event
 use Words.frame
 use Rattle.std.specs.Prelude.{drop}
 use Rattle.std.proofs.Math.Seq.{drop-append_seam}
@@ -15,13 +15,13 @@ use Rattle.arj_law_parts.proofs.parts.Numbered.{AreUp}
 use Rattle.arj_law_runs.proofs.Terms.{Act}
 use Rattle.arj_law_runs.proofs.journal.Owners.{acts_more}
 use Rattle.arj_law_runs.specs.follow.Frames.{are_so}
-use Rattle.arj_model.specs.Actions.{Placed, act_in, acts, acts_from, ended, ended_of, halt_of, halts, has_end, is_halted, is_over, put, read, top_in}
+use Rattle.arj_model.specs.Actions.{Placed, act_in, acts, acts_from, ended, ended_of, halt_of, halts, has_end, is_halted, put, read, top_in}
 use Rattle.arj_model.specs.Calls.{committing_of, committings}
 use Rattle.arj_model.specs.CauseAnswers.{gives_up}
 use Rattle.arj_model.specs.CauseEnds.{gaveup_caused, is_below, may_wait_for, was_asked}
 use Rattle.arj_model.specs.CauseSpans.{Here, asking, behind, commit_here, holds_in, is_frame, of_event, was_sent}
 use Rattle.arj_model.specs.Past.{Asked}
-use Rattle.arj_model.specs.Refusals.{answers_to, asks_by, last_asked, has_ended, holds_of, is_committing, is_over_act, unanswered, was_called}
+use Rattle.arj_model.specs.Refusals.{asks_by, last_asked, has_ended, holds_of, is_committing, is_over_act, unanswered, was_called}
 use Rattle.arj_law_cause.proofs.waits.doomed.Giving.{in_drop}
 use Rattle.arj_law_cause.proofs.waits.waiting.Lists.{any_in}
 use Rattle.arj_law_cause.specs.kinds.Kinds.{is_node_given_up}
@@ -199,7 +199,8 @@ module _ (accepted : List Asked) (ls : List Line) (l : Label) (a : Act) (named :
   lines_so h asked first gives ns [] lines up each = refl
   lines_so h asked first gives ns (n ∷ more) lines up each = λ i.
       line_so h asked ns lines n more first gives up (each n (inl refl)) i
-      && lines_so (behind h (body.GaveUp l n)) asked first gives (ns ++ n ∷ []) more behind_one (subst AreUp (sym (append_assoc ns (n ∷ []) more)) up)
+      && lines_so (behind h (body.GaveUp l n)) asked first gives (ns ++ n ∷ []) more behind_one (subst AreUp (sym (append_assoc ns (n ∷
+      []) more)) up)
       (λ m j. each m (inr j)) i
     where
       behind_one : h.lines ++ record { event = h.number; body = body.GaveUp l n } ∷ [] ≡ ls ++ numbered h.number (gave l (ns ++ n ∷ []))

@@ -1,6 +1,6 @@
 -- No other event names a node that is given up, and a giveup names none but at its beginning.
 use Rattle.arj_law_parts.proofs.Words
-use Words.{◌≡◌, ◌⊎◌, ◌∙◌, ◌+◌, ◌++◌, ◌&&◌, ◌||◌, not, ℕ, Bool, true, false, cond, List, [], ◌∷◌, refl, sym, ap, subst, inl, inr, ⊎_elim, and_parts}
+use Words.{◌≡◌, ◌∙◌, ◌+◌, ◌++◌, ◌&&◌, not, ℕ, Bool, true, false, List, [], ◌∷◌, refl, sym, ap, inl, inr, and_parts}
 use Words.{list_all, name, Body, Event, Header, Kind, Label, Option, Some, None}
 use Words.body
 use Words.cause
@@ -49,7 +49,8 @@ lost_other l b is = refl
 all_lost : (l : Label) (bs : List Body) → list_all (saying.fits (loses l)) bs ≡ true → Others bs
 all_lost l [] all = refl
 all_lost l (b ∷ bs) all =
-    let r = and_parts (saying.fits (loses l) b) (list_all (saying.fits (loses l)) bs) all in λ i. lost_other l b r.0 i && all_lost l bs r.1 i
+    let r = and_parts (saying.fits (loses l) b) (list_all (saying.fits (loses l)) bs) all in λ i. lost_other l b r.0 i && all_lost l bs
+    r.1 i
 
 -- behind its own lines
 pub goes_other : (l : Label) (k : ℕ) (bs : List Body) → Goes (loses l) k bs → Others bs

@@ -1,23 +1,21 @@
 -- Event by event: each node that a giveup names is one that the action may wait for.
 use Rattle.arj_law_parts.proofs.Words
-use Words.{◌≡◌, ◌∙◌, ◌+◌, ◌++◌, ◌&&◌, ◌||◌, ℕ, Bool, true, false, cond, if◌then◌else◌, List, [], ◌∷◌, filter, Option, Some, None, refl, sym, ap, subst}
-use Words.{append-nil, append_assoc, bytes_eq, bytes_eq-Decides, filter-append, In, Body, Event, Header, Label, Line, Move, Arm, Start, Uid, World, actor, at_place}
-use Words.{counted, doing_of, happens, journal_by, limited, moved, name, node_of, world_from, Doing, Node, Parts}
+use Words.{◌≡◌, ◌∙◌, ◌+◌, ◌++◌, ℕ, true, false, if◌then◌else◌, List, [], ◌∷◌, None, refl, sym, ap, subst}
+use Words.{append-nil, append_assoc, bytes_eq-Decides, filter-append, Body, Event, Header, Label, Move, Arm, Start, Uid, World, actor}
+use Words.{counted, happens, limited, moved, name, node_of, world_from, Doing}
 use Words.body
 use Words.event
 use Words.input
 use Rattle.arj_law_parts.proofs.moves.Reasons.{is_there}
-use Rattle.arj_law_parts.specs.moves.Moments.{Asking, History, no_history}
-use Rattle.arj_law_runs.proofs.Terms.{Act, Holds}
+use Rattle.arj_law_parts.specs.moves.Moments.{History, no_history}
 use Rattle.arj_law_runs.proofs.follow.Along.{Ended, Outcome, Went, event_of, runs_along}
 use Rattle.arj_law_runs.proofs.follow.Reasons.{refused_by_any}
 use Rattle.arj_law_runs.proofs.follow.Refusing as refusing
 use Rattle.arj_law_runs.proofs.follow.Refusing.{Came, IsRefused, IsRun, same_bodies}
 use Rattle.arj_law_runs.proofs.follow.Walking.{behind_all}
-use Rattle.arj_law_runs.specs.follow.Frames.{are_so, run_events}
+use Rattle.arj_law_runs.specs.follow.Frames.{are_so}
 use Rattle.arj_journal.specs.ScriptForm.{HeaderInForm}
 use Rattle.arj_model.specs.Actions.{act_in, acts}
-use Rattle.arj_model.specs.CauseAnswers.{gives_up}
 use Rattle.arj_model.specs.CauseSpans.{Here, here_at}
 use Rattle.arj_model.specs.Past.{Asked as AskedOf, Past, asked_of, at_start, block, is_refused, next}
 use Rattle.arj_model.specs.Refusals.{asks_by, is_ask_by}
@@ -37,14 +35,15 @@ use Rattle.arj_law_cause.proofs.waits.doomed.Standing as standing
 use Rattle.arj_law_cause.proofs.waits.given.Asked as asked
 use Rattle.arj_law_cause.proofs.waits.given.Lines as given
 use Rattle.arj_law_cause.proofs.waits.given.Lines.{MayWait, gave}
-use Rattle.arj_law_cause.proofs.waits.given.Others.{goes_other, is_give_up, limit_other, lines_other, others_so}
+use Rattle.arj_law_cause.proofs.waits.given.Others.{goes_other, limit_other, lines_other, others_so}
 use Rattle.arj_law_cause.specs.follow.lines.Lines.{LinesStep}
 use Rattle.arj_law_cause.specs.kinds.Kinds.{is_node_given_up}
 use Rattle.arj_law_cause.specs.kinds.Rows.{RowHolds, RowStep, row}
 use Rattle.arj_law_cause.specs.waits.doomed.Dooms.{DoomsStep}
 
 -- a refusal names no node
-refused_other : (h : Here) (bodies : List Body) (c : ℕ) → bodies ≡ body.Refused c ∷ [] → are_so (row (λ g. is_node_given_up)) h bodies ≡ true
+refused_other : (h : Here) (bodies : List Body) (c : ℕ) → bodies ≡ body.Refused c ∷ [] → are_so (row (λ g. is_node_given_up)) h bodies ≡
+    true
 refused_other h bodies c is = ap (are_so (row (λ g. is_node_given_up)) h) is
 
 module _ (hd : Header) (form : HeaderInForm hd) where
@@ -129,7 +128,8 @@ module _ (hd : Header) (form : HeaderInForm hd) where
 
     -- ---- an event
 
-    event_so : (e : Event) (bodies : List Body) → Came e arm t bodies → LinesStep hd p e bodies → RowStep (λ g. is_node_given_up) hd p e bodies
+    event_so : (e : Event) (bodies : List Body) → Came e arm t bodies → LinesStep hd p e bodies → RowStep (λ g. is_node_given_up) hd p e
+        bodies
     event_so e bodies (IsRefused c refused is) step = refused_other (here_at hd p e bodies) bodies c is
     event_so e bodies (IsRun none isnt lines) step = by e none lines step
       where
@@ -171,7 +171,8 @@ module _ (hd : Header) (form : HeaderInForm hd) where
       by (Went bodies step after) (Ended over event lines) = Ended over event lines
       by (Went bodies step after) (Went more also behind) =
           let same : more ≡ bodies = same_bodies (p.count + 1) more bodies p.lines
-          (lines_doomed (next p (event_of m) more) (moved m w) behind ∙ sym (lines_turned (next p (event_of m) bodies) (moved m w) after)) in
+          (lines_doomed (next p (event_of m) more) (moved m w) behind ∙ sym (lines_turned (next p (event_of m) bodies) (moved m w) after))
+          in
           let came = refusing.goes_with hd form m p w stops (let s = (let t = x.0 in t.base) in s.base) on bodies
           (let s = after.base in let b = s.base in b.base) in
           Went bodies (event_so m p w stops x.0 x.1.0 x.1.1 on (event_of m) bodies came.0 step)
