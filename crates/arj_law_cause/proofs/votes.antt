@@ -2,9 +2,9 @@
 --
 -- In the lock machine each write in a copy's log was called, or waits (`Applied`), and what was called and is committed up to its top is a
 -- surviving write by the journal (`Surviving`). So it is of what a server voted, whatever naming has forgotten since (`Voted`), and at each
--- moment of a run (`Written`). Whoever is asked to prepare something gets a state (`Filled`), of an object that its top has changed (`Asks`), by
--- these lines and by more (`Growing`). So each line that says that something is prepared has its cause (`Lines`, `Prepared`). A changed state
--- is of a version above zero (`Above`).
+-- moment of a run (`Written`). Whoever is asked to prepare something gets a state (`Filled`), of an object that its top has changed
+-- (`Asks`), by these lines and by more (`Growing`). So each line that says that something is prepared has its cause (`Lines`, `Prepared`).
+-- A changed state is of a version above zero (`Above`).
 pub mod Above
 pub mod Applied
 pub mod Asks

@@ -15,7 +15,8 @@ use Rattle.arj_law_serial.proofs.Terms.{IsGood, all_keep, kept_both}
 use Rattle.arj_model.specs.Actions.{Act, acts}
 use Rattle.arj_promise.specs.Starts.{IsPast, next_inc}
 use Rattle.arj_law_cause.proofs.confirm.Labels.{Since, first_since, same_acts, since_more, since_way, written}
-use Rattle.arj_law_cause.proofs.confirm.Reached.{AtFirst, ByAct, ByBegin, ByLines, ByMessage, ByRestart, ByStop, ByTick, Reached, reached_has}
+use Rattle.arj_law_cause.proofs.confirm.Reached.{AtFirst, ByAct, ByBegin, ByLines, ByMessage, ByRestart, ByStop, ByTick, Reached}
+use Rattle.arj_law_cause.proofs.confirm.Reached.{reached_has}
 use Rattle.arj_law_cause.proofs.waits.waiting.Acting as acting
 
 -- no action of the lines has a Uid from before the run
@@ -26,7 +27,8 @@ AreNew M = (a : Act) → In a (acts M.lines) → IsPast M.start a.uid → ⊥
 next_new : (node inc count k i : ℕ) (M : Seen) → node ≡ k → inc ≡ i → next_inc M.start k ≤ i →
     IsPast M.start (record { node = node; inc = inc; num = count + 1 }) → ⊥
 next_new node inc count k i M here now since (inl none) = let zero : count + 1 ≡ 0 = ap (λ (u : Uid). u.num) none in omega (arith, zero)
-next_new node inc count k i M here now since (inr less) = low inc i (next_inc M.start k) now since (subst (λ n. inc < next_inc M.start n) here less)
+next_new node inc count k i M here now since (inr less) =
+    low inc i (next_inc M.start k) now since (subst (λ n. inc < next_inc M.start n) here less)
   where
     low : (a b c : ℕ) → a ≡ b → c ≤ b → a < c → ⊥
     low a b c same le below = omega (arith, same, le, below)

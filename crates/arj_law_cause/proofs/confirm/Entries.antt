@@ -171,7 +171,8 @@ length_arrange less (x ∷ xs) = length_insert less x (arrange less xs) ∙ ap s
 few_changers : (lines : List Line) (x : ℕ) (first : List ℕ) (ts : List Top) → length (changers lines x first ts) ≤ length ts
 few_changers lines x first [] = omega arith
 few_changers lines x first (t ∷ ts) =
-    by (same_list (listed_after lines x first t) first) (few_changers lines x first ts) (few_changers lines x (listed_after lines x first t) ts)
+    by (same_list (listed_after lines x first t) first) (few_changers lines x first ts)
+        (few_changers lines x (listed_after lines x first t) ts)
   where
     by : (b : Bool) → length (changers lines x first ts) ≤ length ts →
         length (changers lines x (listed_after lines x first t) ts) ≤ length ts →
@@ -207,7 +208,8 @@ entry_below hd st formed lines right few x = sum (let m = st.marks.entries x in 
 
 -- a new state one version above another is not too old for it
 pub next_not_old : (s held : ObjectState) → s.version ≡ next_version held.version → held.version < LAST_VERSION → is_old s held ≡ false
-next_not_old s held is room = ap (λ v. nat_lt v held.version || ((v == held.version) && not (state_eq s held))) (is ∙ plain held.version room)
+next_not_old s held is room =
+    ap (λ v. nat_lt v held.version || ((v == held.version) && not (state_eq s held))) (is ∙ plain held.version room)
     ∙ (λ i. off held.version i || (other held.version i && not (state_eq s held)))
   where
     plain : (v : ℕ) → v < 18446744073709551615 → next_version v ≡ v + 1
@@ -227,7 +229,8 @@ by_book lines right u is =
     ap (is_decided (book lines)) (sym (uid_is w.0.uid u p.0)) ∙ sym (its_decision lines right w.0 w.1) ∙ p.1
 
 -- the last of these, or the one before them
-last_so : (P : Uid → Type 0) (as_begun : List Act) (u : Uid) (ts : List Top) → AllByRecursion (λ (t : Top). P (uid_of_id as_begun t.id)) ts →
+last_so : (P : Uid → Type 0) (as_begun : List Act) (u : Uid) (ts : List Top) →
+    AllByRecursion (λ (t : Top). P (uid_of_id as_begun t.id)) ts →
     P u → P (changer_from as_begun u ts)
 last_so P as_begun u [] all its = its
 last_so P as_begun u (t ∷ ts) all its = last_so P as_begun (uid_of_id as_begun t.id) ts all.1 all.0

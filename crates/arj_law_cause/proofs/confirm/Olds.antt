@@ -247,7 +247,8 @@ module _ (hd : Header) (form : HeaderInForm hd) (Z : Seen) (reached : Reached hd
                 (let A = q.office in let W = A.world in W.disk.stage (uid_number a.uid)) ≡ disk.Idle
             voting_idle Words.kind.Nested n e z = off z
             voting_idle Words.kind.Serial n e z = off z.0
-            voting_idle Words.kind.Top n e z = subst (sees.WorksBy w.num (let A = q.office in let W = A.world in W.disk) (uid_number a.uid)) e z.1
+            voting_idle Words.kind.Top n e z =
+                subst (sees.WorksBy w.num (let A = q.office in let W = A.world in W.disk) (uid_number a.uid)) e z.1
             voting_idle Words.kind.Independent n e z =
                 subst (sees.WorksBy w.num (let A = q.office in let W = A.world in W.disk) (uid_number a.uid)) e z.1
             voting_idle Words.kind.Constituent n e z =

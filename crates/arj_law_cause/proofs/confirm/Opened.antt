@@ -148,6 +148,7 @@ same_there M k n t here number live = λ i. record M { nodes = λ m. each m (m =
 
     each : (m : ℕ) (b : Bool) → (m == k) ≡ b →
         (if (m == k) then Some (record { number = k; disk = n.disk; live = Some t }) else M.nodes m) ≡ M.nodes m
-    each m true e = ap (λ (z : Bool). if z then Some (record { number = k; disk = n.disk; live = Some t }) else M.nodes m) e ∙ ap Some its_node
+    each m true e = ap (λ (z : Bool). if z then Some (record { number = k; disk = n.disk; live = Some t }) else M.nodes m) e
+        ∙ ap Some its_node
         ∙ sym here ∙ ap M.nodes (sym (eqb-true m k e))
     each m false e = ap (λ (z : Bool). if z then Some (record { number = k; disk = n.disk; live = Some t }) else M.nodes m) e

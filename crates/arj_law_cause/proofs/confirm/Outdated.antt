@@ -185,7 +185,8 @@ module _ (hd : Header) (st : Start) (form : HeaderInForm hd) (before : List Line
         let same : c.0 ≡ (let s = stands in s.act) = one_act (acts M.seen.lines) (let s = its_sound M.seen.lines right in s.distinct) c.0
         (let s = stands in s.act) c.1 (let s = stands in s.began) (c.2 ∙ asker ∙ sym its_uid) in
         ap (λ (b : Act). changes M.seen.lines b.id y) (sym same)
-        ∙ ap (λ (u : Uid). changes M.seen.lines (let b = c.0 in b.id) u.num) (sym (late early).of) ∙ c.3 (late early).state (late early).among
+        ∙ ap (λ (u : Uid). changes M.seen.lines (let b = c.0 in b.id) u.num) (sym (late early).of)
+        ∙ c.3 (late early).state (late early).among
 
     -- ---- where the line comes
 
@@ -196,7 +197,8 @@ module _ (hd : Header) (st : Start) (form : HeaderInForm hd) (before : List Line
       its_place : (c : ℕ) × (commit_here (record h { header = hd; lines = M.seen.lines }) (name w.label) ≡ Some c)
           × (c ≤ length (let z = ans.3 in z.made.before))
       its_place = place (record h { header = hd; lines = M.seen.lines }) (name w.label) (let z = ans.3 in z.made.before)
-          (let z = ans.3 in z.made.after) (let z = ans.3 in z.made.are) right (let s = stands in s.act) (let s = stands in s.named) under called
+          (let z = ans.3 in z.made.after) (let z = ans.3 in z.made.are) right (let s = stands in s.act)
+          (let s = stands in s.named) under called
 
       counted : nat_le v ((let m = h.start.marks.states y in m.version) + writers (let z = ans.3 in z.made.before) y) ≡ true
       counted = ap (λ (s0 : Start). nat_le v ((let m = s0.marks.states y in m.version) + writers (let z = ans.3 in z.made.before) y)) starts
@@ -211,7 +213,8 @@ module _ (hd : Header) (st : Start) (form : HeaderInForm hd) (before : List Line
           low : (z : ℕ) → 1 ≤ z → nat_le 1 z ≡ true
           low z le = grind (arith, nat_tests, le)
 
-      answered_so : answered (record h { header = hd; lines = M.seen.lines }) its_place.0 (let s = stands in let b = s.act in b.uid.node) from
+      answered_so : answered (record h { header = hd; lines = M.seen.lines }) its_place.0
+          (let s = stands in let b = s.act in b.uid.node) from
           (frame.Prepared ∷ []) (λ ls. nat_le v ((let m = h.start.marks.states y in m.version) + writers ls y)) ≡ true
       answered_so = let z = ans.3 in
           answered_at (record h { header = hd; lines = M.seen.lines }) its_place.0 (let s = stands in let b = s.act in b.uid.node) from

@@ -182,7 +182,8 @@ module _ (hd : Header) (st : Start) where
           are,
           (λ early g header starts at. subst (λ z. is_old_so z (body.Aborted w.label (cause.Old from y v)) ≡ true)
               (λ i. record g { header = sym header i; lines = sym at i })
-              (old_row hd st form before event k d t M (h.0, h.1.2) made from m there a y v (is ∙ ap (λ z. Some (a, z)) reply) w p left found now
+              (old_row hd st form before event k d t M (h.0, h.1.2) made from m there a y v (is ∙ ap (λ z. Some (a, z)) reply) w p left
+              found now
               (subst (λ z. Words.waits_for_commit from a z (Words.Preparing p left) ≡ true) reply waits) early g starts)),
           all,
         )
@@ -307,7 +308,8 @@ runs_early hd r form = record {
 abbrev IsSo : Header → Start → List Line → Body → Type 0
 IsSo hd st before b = Fits hd st before b × IsEarly before
 
-module _ (hd : Header) (st : Start) (test of : Here → Body → Bool) (to : (h : Here) (b : Body) → h.header ≡ hd → h.start ≡ st → of h b ≡ true →
+module _ (hd : Header) (st : Start) (test of : Here → Body → Bool) (to : (h : Here) (b : Body) → h.header ≡ hd → h.start ≡ st →
+    of h b ≡ true →
     IsSo hd st h.lines b → test h b ≡ true)
     (lines : List Line) (each : (before : List Line) (line : Line) (behind : List Line) → lines ≡ before ++ line ∷ behind →
     IsSo hd st before line.body) where

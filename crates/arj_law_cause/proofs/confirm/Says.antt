@@ -243,7 +243,8 @@ module _ (hd : Header) (form : HeaderInForm hd) (Z : Seen) (reached : Reached hd
 
       locked : (o : Option Named) → at_number (let g = z.grant in g.0) n.objects ≡ o → conflict_in (let g = z.grant in g.0) h.path
           (at_number (let g = z.grant in g.0) n.objects) ≡ None → holder_of (entry (let g = z.grant in g.0)) d.names ≡ None
-      locked None at none = let no_way : false ≡ true = sym (ap is_some at) ∙ named_there z.grant grants z.there z.named in absurd (cc no_way)
+      locked None at none =
+          let no_way : false ≡ true = sym (ap is_some at) ∙ named_there z.grant grants z.there z.named in absurd (cc no_way)
       locked (Some o) at none =
           locked_unheld early (let g = z.grant in g.0) line z.untold z.unconfirmed z.own o at
           (sym (ap (conflict_in (let g = z.grant in g.0) h.path) at) ∙ none)
@@ -344,7 +345,8 @@ one_front [] x y is = refl
 one_front (f ∷ []) x y is = let no_way : ◌≡◌ {A = List Effect} [] (y ∷ []) = ap tail_of is in absurd (cc no_way)
 one_front (f ∷ g ∷ fs) x y is = let no_way : ◌≡◌ {A = List Effect} [] (g ∷ fs ++ y ∷ []) = ap tail_of is in absurd (cc no_way)
 
-module _ (hd : Header) (st : Start) (form : HeaderInForm hd) (k : ℕ) (d : Disk) (t v : Parts) (from : ℕ) (m : Message) (h : Head) (grants : Grants)
+module _ (hd : Header) (st : Start) (form : HeaderInForm hd) (k : ℕ) (d : Disk) (t v : Parts) (from : ℕ) (m : Message) (h : Head)
+    (grants : Grants)
     (excluded included : Marks) (r : Reply) (front : List Effect) (M : Moment) (known : Wide (Reached hd) (up k d t M))
     (there : seen.In (record { from = from; to = k; message = m }) M.seen.sent)
     (asking : asks m ≡ Some (h, ask.Confirm grants excluded included))
@@ -480,7 +482,8 @@ module _ (hd : Header) (st : Start) (form : HeaderInForm hd) (k : ℕ) (d : Disk
           (if b then sends_answer from h t [] (Some (Reply.Prepared prepared.Yes)) else prepare_by k states from h t a)
           ≡ Took v (front ++ Send from (response (asked_by h) r) ∷ []) →
           says_of hd st h (ask.Prepare states) r (lines_behind M.past.number front M.seen.lines)
-      by true a is f = plain_so prepared.Yes (same_reply from h r (Reply.Prepared prepared.Yes) front [] (sym (ap outs_in f))) (λ y n z. cc z)
+      by true a is f =
+          plain_so prepared.Yes (same_reply from h r (Reply.Prepared prepared.Yes) front [] (sym (ap outs_in f))) (λ y n z. cc z)
       by false Ready is f = plain_so prepared.Yes (same_reply from h r (Reply.Prepared prepared.Yes) front
           (Do Look ∷ Do (Prepare role.Store (actor h.path) states) ∷ Say (body.Prepared k (actor h.path) role.Store) ∷ [])
           (sym (ap outs_in f))) (λ y n z. cc z)
@@ -493,7 +496,8 @@ module _ (hd : Header) (st : Start) (form : HeaderInForm hd) (k : ℕ) (d : Disk
           (subst (λ ls. is_called ls (actor h.path) × says_late st h states (let z = u in z.num) n ls) (sym (behind_look f)) (
             prepare_called,
             λ early a began its opened. subst (λ s. IsTooLate s states (let z = u in z.num) n M.seen.lines) starts
-                (too_late hd form (let N = up k d t M in seen.with_sent known.0 N.seen) known.2 k d t its_place from m its_post h states asking u n
+                (too_late hd form (let N = up k d t M in seen.with_sent known.0 N.seen) known.2 k d t its_place from m its_post h states
+                asking u n
                 is early a began its opened),
           ))
         where
@@ -502,7 +506,8 @@ module _ (hd : Header) (st : Start) (form : HeaderInForm hd) (k : ℕ) (d : Disk
               lines_behind M.past.number front M.seen.lines ≡ M.seen.lines
           behind_look f = two front (ap outs_in f)
             where
-              two : (es : List Effect) → Do Look ∷ Send from (response (asked_by h) (Reply.Prepared (prepared.Old (let z = u in z.num) n))) ∷ []
+              two : (es : List Effect) →
+                  Do Look ∷ Send from (response (asked_by h) (Reply.Prepared (prepared.Old (let z = u in z.num) n))) ∷ []
                   ≡ es ++ Send from (response (asked_by h) r) ∷ [] → lines_behind M.past.number es M.seen.lines ≡ M.seen.lines
               two [] g = absurd (cc g)
               two (Do w ∷ []) g = refl
@@ -519,14 +524,15 @@ Shows hd before event M = Tables hd before event M × Wide (Reached hd) M
 abbrev pub ShowsFrom : Header → Start → List Line → ℕ → Moment → Type 0
 ShowsFrom hd st before event M = Shows hd before event M × ((let N = M.seen in N.start) ≡ st)
 
-pub tells : (hd : Header) (st : Start) → HeaderInForm hd → (before : List Line) (event : ℕ) → ((j : ℕ) → (event == up_of j before) ≡ false) →
+pub tells : (hd : Header) (st : Start) → HeaderInForm hd → (before : List Line) (event : ℕ) →
+    ((j : ℕ) → (event == up_of j before) ≡ false) →
     Tells (ShowsFrom hd st before event) (confirms_so hd st)
-tells hd st form before event early k d t v from m h (ask.Confirm grants excluded included) r front M known there other meant asking new is =
+tells hd st form before event early k d t v from m h (ask.Confirm grants gone more) r front M known there other meant asking new is =
     let s = known.0.0.0.1 in
     let served_so = sym (ap (handle_ask k d t from m) asking) ∙ is in
-    confirm_says hd st form k d t v from m h grants excluded included r front M known.0.1 there asking
+    confirm_says hd st form k d t v from m h grants gone more r front M known.0.1 there asking
     (table_then hd before event early k d t v from m front (response (asked_by h) r) M s.0 s.1 s.2 known.0.0.1 other there meant is
-    (silent_front k d t v from h (ask.Confirm grants excluded included) r front served_so)).0 served_so
+    (silent_front k d t v from h (ask.Confirm grants gone more) r front served_so)).0 served_so
 tells hd st form before event early k d t v from m h (ask.Bind x include avoid) r front M known there other meant asking new is = tt
 tells hd st form before event early k d t v from m h (ask.Load x) r front M known there other meant asking new is = tt
 tells hd st form before event early k d t v from m h (ask.Activate b state) r front M known there other meant asking new is = tt

@@ -61,7 +61,8 @@ module _ (hd : Header) (x : ℕ) (form : HeaderInForm hd) (there : is_some (obje
 
   pub held_low : (k : ℕ) (n : Node) (st : ObjectState) → S.nodes k ≡ Some n → held_at (object x) (let d = n.disk in d.store) ≡ Some st →
       st.version ≤ (let m = S.start.marks.states x in m.version) + count_tops (writes_of S.lines x)
-  held_low k n st at held = by (known_below (let W = j.machine in W.disk) (packed st) core.history (core.history.held k (packed st) held_so))
+  held_low k n st at held =
+      by (known_below (let W = j.machine in W.disk) (packed st) core.history (core.history.held k (packed st) held_so))
     where
       here : at_place k (world_at hd S (world_of hd S r)).nodes ≡ Some n
       here = ap (λ (Z : Seen). Z.nodes k) (sees_at hd S (world_of hd S r) h.sent) ∙ at
@@ -75,7 +76,8 @@ module _ (hd : Header) (x : ℕ) (form : HeaderInForm hd) (there : is_some (obje
       core : Core (let W = j.machine in W.disk)
       core = (let s = j.sees in let v = s.whole in v.core)
 
-      version : (let W = j.machine in last W.disk).version ≡ (let m = S.start.marks.states x in m.version) + count_tops (writes_of S.lines x)
+      version : (let W = j.machine in last W.disk).version
+          ≡ (let m = S.start.marks.states x in m.version) + count_tops (writes_of S.lines x)
       version = ap (λ (g : Packed). g.version) last_is
           ∙ (λ i. (let st = its_start i in let m = st.marks.states x in m.version) + count_tops (writes_of (its_lines i) x))
 
