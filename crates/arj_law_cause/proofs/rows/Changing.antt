@@ -3,7 +3,13 @@ use Rattle.arj_law_parts.proofs.Words
 use Words.{◌≡◌, ◌∙◌, ℕ, true, refl, List, Option, Some, None, sym, ap, subst, find, In, in_find, uid_eq, uid_is, Header, Node, ObjectState}
 use Words.{Pair, Seen, Uid, actor, at_uid, holder_of, names_object, object, option_map}
 use Rattle.arj_journal.specs.ScriptForm.{HeaderInForm}
+use Words.{Head, Post, ◌∷◌, ◌&&◌, and_parts, are_of_objects, asks, inl, inr, is_object, nat_le, not, []}
+use Words.ask
+use Rattle.arj_journal.specs.declared.limits.TheConstants.{OBJECTS}
 use Rattle.arj_law_parts.proofs.Terms as objects
+use Rattle.arj_law_parts.specs.moves.Seen as seen
+use Rattle.arj_law_promise.proofs.meant.Requests.{meant_keep}
+use Rattle.arj_law_promise.specs.meant.Meant.{AskFits, MeantAreKnown}
 use Rattle.arj_law_promise.proofs.Terms
 use Terms.{IsKept, in_at, keeps_asked, some_is}
 use Rattle.arj_law_promise.proofs.settling.{Joins.PreparedFrom, Rights.right_keep, Settled.sorted_as, Stills.IsRight}
@@ -76,3 +82,44 @@ doubt_changed hd S reached n a x u here held form early =
     its =
         let known : Reached hd S × AsksAreChanged S = reached_has hd (λ M. Reached hd M × AsksAreChanged M) (changed_keep hd form) S reached in
         (subst (AskChanged S.lines) post.5 (known.1 post.0 post.1)).1 early
+
+-- ---- requests
+
+-- a state of an object is of its number
+of_objects : (ss : List ObjectState) → are_of_objects ss ≡ true → (s : ObjectState) → In s ss →
+    s.uid ≡ object (let u = s.uid in u.num)
+of_objects [] all s i = absurd i
+of_objects (t ∷ ts) all s (inl same) = subst (λ (z : ObjectState). z.uid ≡ object (let u = z.uid in u.num)) same
+    (uid_is t.uid (object (let u = t.uid in u.num)) (and_parts (uid_eq t.uid (object (let u = t.uid in u.num)))
+    (nat_le 1 (let u = t.uid in u.num) && nat_le (let u = t.uid in u.num) OBJECTS)
+    (and_parts (is_object t.uid) (not (names_object t.uid ts) && are_of_objects ts) all).0).0)
+of_objects (t ∷ ts) all s (inr more) = of_objects ts (and_parts (not (names_object t.uid ts)) (are_of_objects ts)
+    (and_parts (is_object t.uid) (not (names_object t.uid ts) && are_of_objects ts) all).1).1 s more
+
+-- who asks to prepare a state has changed its object, and so has another one that has it prepared there
+pub prepare_changed : (hd : Header) (S : Seen) → Reached hd S → (n : ℕ) (a : Node) → S.nodes n ≡ Some a → (p : Post) → seen.In p S.sent →
+    (h : Head) (states : List ObjectState) → asks p.message ≡ Some (h, ask.Prepare states) → (st : ObjectState) → In st states →
+    (u : Uid) → holder_of st.uid (let d = a.disk in d.store) ≡ Some u → HeaderInForm hd → IsEarly S.lines →
+    (has_changed S.lines (actor h.path) (let w = st.uid in w.num) && has_changed S.lines u (let w = st.uid in w.num)) ≡ true
+prepare_changed hd S reached n a here p there h states asking st among u held form early = λ i. mine i && theirs i
+  where
+    fits : AskFits hd (ask.Prepare states)
+    fits = let known : MeantAreKnown hd S = reached_has hd (MeantAreKnown hd) (meant_keep hd form) S reached in
+        known.1 p h (ask.Prepare states) there asking
+
+    theirs : has_changed S.lines u (let w = st.uid in w.num) ≡ true
+    theirs = doubt_changed hd S reached n a (let w = st.uid in w.num) u here
+        (ap (λ z. holder_of z (let d = a.disk in d.store)) (sym (of_objects states fits.0 st among)) ∙ held) form early
+
+    right : AreRight new_book S.lines
+    right = let rights : IsRight S = reached_has hd IsRight (keeps_asked hd IsRight (right_keep hd)) S reached in
+        let k : IsKept S = rights.0.0.0.0 in let w = k.1 in w.right
+
+    its : ChangesEach S.lines (actor h.path) states
+    its =
+        let known : Reached hd S × AsksAreChanged S = reached_has hd (λ M. Reached hd M × AsksAreChanged M) (changed_keep hd form) S reached in
+        (subst (AskChanged S.lines) asking (known.1 p there)).1 early
+
+    mine : has_changed S.lines (actor h.path) (let w = st.uid in w.num) ≡ true
+    mine = subst (λ o. holds_in (λ (b : Act). changes S.lines b.id (let w = st.uid in w.num)) o ≡ true)
+        (sym (act_found (acts S.lines) (let s = its_sound S.lines right in s.distinct) its.0 its.1 (actor h.path) its.2)) (its.3 st among)

@@ -6,6 +6,7 @@ use Words.{asked_by, handle_ask, response, Node, World, Arm, Move, counted, firs
 use Words.{limited, moved, no_labels}
 use Words.{numbered, reasons, run_event, run_unless, see, Seen, all_moved, world_from, with_coord, again_all, begin_action, parent_of}
 use Words.{parts_in, restart_outs, tick_outs, acts as does, IsFormed}
+use Words.{actor, ◌&&◌}
 use Words.body
 use Rattle.arj_law_parts.proofs.Terms.{Asked, says}
 use Rattle.arj_law_parts.proofs.Terms.which
@@ -27,7 +28,7 @@ use Rattle.arj_law_serial.proofs.holding.{Events.IsShown, Events.event_shown, Ev
 use Rattle.arj_law_serial.proofs.holding.{Events.later_off, Running.Known as KnownOf, Running.Showing, Running.showing_kept}
 use Rattle.arj_model.specs.Past.{Past}
 use Rattle.arj_law_cause.proofs.confirm.Reached.{Reached, reached_kept}
-use Rattle.arj_law_cause.proofs.rows.Changing.{doubt_changed}
+use Rattle.arj_law_cause.proofs.rows.Changing.{doubt_changed, prepare_changed}
 use Rattle.arj_law_cause.proofs.rows.{Inside.inside_step, Telling.served_says, Telling.silent_front, Telling.table_then}
 use Rattle.arj_law_cause.proofs.waits.lost.Bound.{all_both}
 use Rattle.arj_law_cause.proofs.rows.Asked.{ArePending, pending_keep}
@@ -116,15 +117,18 @@ module _ (hd : Header) (before : List Line) (event : ℕ) (early : (j : ℕ) →
       let shown = table_then hd before event early k d t v from m front (response (asked_by h) r) M s.0 s.1 s.2 known.1 other there meant is
       silent in
       served_says hd before event early k d t v from h r front (lines_behind M.past.number front M.seen.lines) shown.0 shown.1
-      l.place (λ u none held. subst (λ es. may_be_pending k u (lines_behind M.past.number es M.seen.lines) ≡ true) (sym none)
+      l.place (λ u none held. subst (λ ls. may_be_pending k u ls ≡ true) (sym (none M.past.number M.seen.lines))
       (both.1.1.1.2.1 k n u (λ i. if same_number k i then Some (record { number = k; disk = d; live = Some t }) else M.seen.nodes k) held))
-      a new (λ x same none form. subst (λ es. may_store hd (lines_behind M.past.number es M.seen.lines) k x ≡ true) (sym none)
+      a new (λ x same none form. subst (λ ls. may_store hd ls k x ≡ true) (sym (none M.past.number M.seen.lines))
       (let z = both.1.0.2.0.1 in z.loads (post from k m) h x (both.1.0.1 (post from k m) there)
-      (asking ∙ ap (λ y. Some (h, y)) same) form)) (λ x u same none held form.
-      subst (λ es. IsEarly (lines_behind M.past.number es M.seen.lines) →
-      has_changed (lines_behind M.past.number es M.seen.lines) u x ≡ true) (sym none)
-      (doubt_changed hd _ both.1.0.2.1 k n x u
+      (asking ∙ ap (λ y. Some (h, y)) same) form)) (λ x u same none held form. subst (λ ls. IsEarly ls →
+      has_changed ls u x ≡ true) (sym (none M.past.number M.seen.lines)) (doubt_changed hd _ both.1.0.2.1 k n x u
       (λ i. if same_number k i then Some (record { number = k; disk = d; live = Some t }) else M.seen.nodes k) held form))
+      (λ states same none s among u held form. subst (λ ls. IsEarly ls → (has_changed ls (actor h.path) (let w = s.uid in w.num)
+      && has_changed ls u (let w = s.uid in w.num)) ≡ true) (sym (none M.past.number M.seen.lines))
+      (prepare_changed hd _ both.1.0.2.1 k n (λ i. if same_number k i then Some (record { number = k; disk = d; live = Some t }) else
+      M.seen.nodes k) (post from k m) (both.1.0.1 (post from k m) there) h states
+      (asking ∙ ap (λ y. Some (h, y)) same) s among u held form))
       served
 
   pub event_step : KeepsSteps hd (InEvent hd before event)

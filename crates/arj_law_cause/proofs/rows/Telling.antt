@@ -13,12 +13,17 @@ use Words.{at_uid, cond, find, holder_of, held_at, is_eq, is_prepared, load_by, 
 use Words.{ObjectState, Pair}
 use Rattle.arj_law_parts.proofs.parts.Keys.{order_itself}
 use Words.{with_naming, with_server, numbered, Post, Seen, InvokedReply, BoundReply, server_rows, is_meant}
+use Words.{Already, InDoubt, Old, Prep, Prepare, PreparedReply, Ready, by_holder, either, first_refusal, is_old, prepare_answer, prepare_by}
+use Words.{refusal_in, refusal_of, unwrap_or, uid_eq, uid_is}
 use Words.ask
 use Words.bound
+use Words.body
 use Words.invoked
 use Words.loaded
 use Words.mode
 use Words.naming
+use Words.prepared
+use Words.role
 use Words.server
 use Rattle.arj_law_serial.proofs.Terms
 use Terms.{ShowsLocks, rows_on, up_of, memory_of, named_locks, Walks, Up, AreAlike, IsMemory, IsUp, acts, has_act, HoldsNames, paths_of}
@@ -170,6 +175,40 @@ holder_prepared x u d is = by (find (λ (p : Uid × List ObjectState). names_obj
     by (Some p) some e = subst (λ w. is_prepared w d ≡ true) (some_is e)
         (at_is d.pend p (in_find (λ (q : Uid × List ObjectState). names_object x q.1) p d.pend some).0)
 
+-- a doubt is of a state that another action has prepared
+doubt_found : (act : Uid) (d : Pair) (ss : List ObjectState) (u w : Uid) → first_refusal act d ss ≡ Some (InDoubt u w) →
+    (s : ObjectState) × In s ss × (s.uid ≡ u) × (holder_of u d ≡ Some w)
+doubt_found act d [] u w is = absurd (cc is)
+doubt_found act d (s ∷ ss) u w is = by (refusal_in act d s) refl is (doubt_found act d ss u w)
+  where
+    its : (o : Option Uid) → holder_of s.uid d ≡ o → by_holder s o ≡ Some (InDoubt u w) → (s.uid ≡ u) × (holder_of u d ≡ Some w)
+    its None at e = absurd (cc e)
+    its (Some x) at e =
+        let one : ◌≡◌ {A = Prep} (InDoubt s.uid x) (InDoubt u w) = some_is e in
+        let same : s.uid ≡ u = cc one in
+        let who : x ≡ w = cc one in (same, ap (λ z. holder_of z d) (sym same) ∙ at ∙ ap Some who)
+
+    of : (held : Option ObjectState) → refusal_of act s held (holder_of s.uid d) ≡ Some (InDoubt u w) →
+        (s.uid ≡ u) × (holder_of u d ≡ Some w)
+    of None e = its (holder_of s.uid d) refl e
+    of (Some q) e = one (uid_eq q.writer act) (is_old s q) e
+      where
+        one : (a b : Bool) → (if a then Some (Already s.uid) else if b then Some (Old s.uid q.version) else by_holder s (holder_of s.uid d))
+            ≡ Some (InDoubt u w) → (s.uid ≡ u) × (holder_of u d ≡ Some w)
+        one true b e = let no_way : ◌≡◌ {A = Prep} (Already s.uid) (InDoubt u w) = some_is e in absurd (cc no_way)
+        one false true e = let no_way : ◌≡◌ {A = Prep} (Old s.uid q.version) (InDoubt u w) = some_is e in absurd (cc no_way)
+        one false false e = its (holder_of s.uid d) refl e
+
+    by : (o : Option Prep) → refusal_in act d s ≡ o → either o (first_refusal act d ss) ≡ Some (InDoubt u w) →
+        (first_refusal act d ss ≡ Some (InDoubt u w) → (s : ObjectState) × In s ss × (s.uid ≡ u) × (holder_of u d ≡ Some w)) →
+        (z : ObjectState) × In z (s ∷ ss) × (z.uid ≡ u) × (holder_of u d ≡ Some w)
+    by None at e ih = let r = ih e in (r.0, inr r.1, r.2, r.3)
+    by (Some a) at e ih = let r = of (held_at s.uid d) (at ∙ e) in (s, inl refl, r.0, r.1)
+
+doubt_first : (o : Option Prep) (u w : Uid) → unwrap_or o Ready ≡ InDoubt u w → o ≡ Some (InDoubt u w)
+doubt_first None u w e = absurd (cc e)
+doubt_first (Some b) u w e = ap Some e
+
 -- ---- tables
 
 -- who has locks has begun by these lines, and on entries is no nested action
@@ -258,7 +297,12 @@ module _ (hd : Header) (before : List Line) (event : ℕ) (early : (j : ℕ) →
 
   module _ (k : ℕ) (d : Disk) (t v : Parts) (from : ℕ) (h : Head) (r : Reply) (front : List Effect) (lines : List Line)
       (shown : ShowsLocks k lines (Some v)) (holders : AreHolders v lines) (place : is_some t.naming ≡ (k == 1))
-      (doubts : (u : Uid) → front ≡ [] → is_prepared u d.store ≡ true → may_be_pending k u lines ≡ true) where
+      (doubts : (u : Uid) → ((n : ℕ) (ls : List Line) → lines_behind n front ls ≡ ls) → is_prepared u d.store ≡ true →
+      may_be_pending k u lines ≡ true) where
+    -- what comes before the answer says nothing
+    abbrev Unsaid : Type 0
+    Unsaid = (n : ℕ) (ls : List Line) → lines_behind n front ls ≡ ls
+
     abbrev Sent : Handled → Type 0
     Sent a = a ≡ Took v (front ++ Send from (response (asked_by h) r) ∷ [])
 
@@ -349,8 +393,8 @@ module _ (hd : Header) (before : List Line) (event : ℕ) (early : (j : ℕ) →
         with_it None there e = let no_way : Void [] ≡ Took v (front ++ Send from (response (asked_by h) r) ∷ []) = e in absurd (cc no_way)
         with_it (Some o) there e = named o there e
 
-    loaded_says : (x : ℕ) → (front ≡ [] → HeaderInForm hd → may_store hd lines k x ≡ true) →
-        ((u : Uid) → front ≡ [] → holder_of (object x) d.store ≡ Some u → HeaderInForm hd → IsEarly lines → has_changed lines u x ≡ true) →
+    loaded_says : (x : ℕ) → (Unsaid → HeaderInForm hd → may_store hd lines k x ≡ true) →
+        ((u : Uid) → Unsaid → holder_of (object x) d.store ≡ Some u → HeaderInForm hd → IsEarly lines → has_changed lines u x ≡ true) →
         Sent (serve k d t from h (ask.Load x)) → says_of hd k h (ask.Load x) r lines
     loaded_says x stores changed is = by (holder_of (object x) d.store) refl is
       where
@@ -365,18 +409,74 @@ module _ (hd : Header) (before : List Line) (event : ℕ) (early : (j : ℕ) →
         by (Some u) at e = let z = replied t [] (Reply.Loaded (loaded.InDoubt u)) e in
             let none : front ≡ [] = sym (init_is front (Send from (response (asked_by h) r))) ∙ ap init_of (sym (ap outs_in e)) in
             subst (λ y. says_of hd k h (ask.Load x) y lines) (sym z.0)
-            (doubts u none (holder_prepared (object x) u d.store at), (λ form. stores none form), changed u none at)
+            (let quiet : Unsaid = (λ n ls. ap (λ es. lines_behind n es ls) none) in
+            (doubts u quiet (holder_prepared (object x) u d.store at), (λ form. stores quiet form), changed u quiet at))
+
+    prepared_says : (states : List ObjectState) → (Unsaid → (s : ObjectState) → In s states → (u : Uid) →
+        holder_of s.uid d.store ≡ Some u → HeaderInForm hd → IsEarly lines →
+        (has_changed lines (actor h.path) (let w = s.uid in w.num) && has_changed lines u (let w = s.uid in w.num)) ≡ true) →
+        Sent (serve k d t from h (ask.Prepare states)) → says_of hd k h (ask.Prepare states) r lines
+    prepared_says states changed is = by (is_prepared (actor h.path) d.store) (prepare_answer (actor h.path) states d.store) refl refl is
+      where
+        -- an answer that is no doubt
+        other : (q : PreparedReply) → r ≡ Reply.Prepared q → ((y : ℕ) (u : Uid) → q ≡ prepared.InDoubt y u → ⊥) →
+            says_of hd k h (ask.Prepare states) r lines
+        other prepared.Yes its off = subst (λ z. says_of hd k h (ask.Prepare states) z lines) (sym its) tt
+        other (prepared.Old y n) its off = subst (λ z. says_of hd k h (ask.Prepare states) z lines) (sym its) tt
+        other (prepared.InDoubt y u) its off = absurd (off y u refl)
+
+        reply_of : (q : PreparedReply) (es : List Effect) → Took t (es ++ Send from (response (asked_by h) (Reply.Prepared q)) ∷ []) ≡
+            Took v (front ++ Send from (response (asked_by h) r) ∷ []) → r ≡ Reply.Prepared q
+        reply_of q es f = (replied t es (Reply.Prepared q) f).0
+
+        by : (b : Bool) (a : Prep) → is_prepared (actor h.path) d.store ≡ b → prepare_answer (actor h.path) states d.store ≡ a →
+            Sent (cond b (sends_answer from h t [] (Some (Reply.Prepared prepared.Yes))) (prepare_by k states from h t a)) →
+            says_of hd k h (ask.Prepare states) r lines
+        by true a held at f = other prepared.Yes (reply_of prepared.Yes [] f) (λ y u z. cc z)
+        by false Ready held at f = other prepared.Yes (reply_of prepared.Yes
+            (Do Look ∷ Do (Prepare role.Store (actor h.path) states) ∷ Say (body.Prepared k (actor h.path) role.Store) ∷ []) f)
+            (λ y u z. cc z)
+        by false (Already u) held at f =
+            let no_way : Void (Do Look ∷ []) ≡ Took v (front ++ Send from (response (asked_by h) r) ∷ []) = f in absurd (cc no_way)
+        by false (Old u n) held at f = other (prepared.Old (let z = u in z.num) n) (reply_of (prepared.Old (let z = u in z.num) n)
+            (Do Look ∷ []) f) (λ y w z. cc z)
+        by false (InDoubt u w) held at f = subst (λ z. says_of hd k h (ask.Prepare states) z lines)
+            (sym (reply_of (prepared.InDoubt (let z = u in z.num) w) (Do Look ∷ []) f)) (
+              apart,
+              doubts w quiet (holder_prepared u w d.store found.3),
+              λ form early. subst (λ (z : Uid). (has_changed lines (actor h.path) z.num && has_changed lines w z.num) ≡ true) found.2
+                  (changed quiet found.0 found.1 w (ap (λ z. holder_of z d.store) found.2 ∙ found.3) form early),
+            )
+          where
+            found : (s : ObjectState) × In s states × (s.uid ≡ u) × (holder_of u d.store ≡ Some w)
+            found = doubt_found (actor h.path) d.store states u w
+                (doubt_first (first_refusal (actor h.path) d.store states) u w at)
+
+            quiet : Unsaid
+            quiet = λ n ls. ap (λ es. lines_behind n es ls)
+                (sym (init_is front (Send from (response (asked_by h) r))) ∙ ap init_of (sym (ap outs_in f)))
+
+            apart : uid_eq w (actor h.path) ≡ false
+            apart = of (uid_eq w (actor h.path)) refl
+              where
+                of : (b : Bool) → uid_eq w (actor h.path) ≡ b → b ≡ false
+                of false e = refl
+                of true e = let no_way : true ≡ false = sym (holder_prepared u w d.store found.3)
+                    ∙ ap (λ z. is_prepared z d.store) (uid_is w (actor h.path) e) ∙ held in absurd (cc no_way)
 
     pub served_says : (a : Ask) → is_again h a t.server ≡ false →
-        ((x : ℕ) → a ≡ ask.Load x → front ≡ [] → HeaderInForm hd → may_store hd lines k x ≡ true) →
-        ((x : ℕ) (u : Uid) → a ≡ ask.Load x → front ≡ [] → holder_of (object x) d.store ≡ Some u → HeaderInForm hd → IsEarly lines →
+        ((x : ℕ) → a ≡ ask.Load x → Unsaid → HeaderInForm hd → may_store hd lines k x ≡ true) →
+        ((x : ℕ) (u : Uid) → a ≡ ask.Load x → Unsaid → holder_of (object x) d.store ≡ Some u → HeaderInForm hd → IsEarly lines →
         has_changed lines u x ≡ true) →
+        ((states : List ObjectState) → a ≡ ask.Prepare states → Unsaid → (s : ObjectState) → In s states → (u : Uid) →
+        holder_of s.uid d.store ≡ Some u → HeaderInForm hd → IsEarly lines →
+        (has_changed lines (actor h.path) (let w = s.uid in w.num) && has_changed lines u (let w = s.uid in w.num)) ≡ true) →
         Sent (serve k d t from h a) → says_of hd k h a r lines
-    served_says (ask.Invoke x b i ends o) new stores changed is = invoked_says x b i ends o new is
-    served_says (ask.Bind x include avoid) new stores changed is = bound_says x include avoid is
-    served_says (ask.Load x) new stores changed is = loaded_says x (stores x refl) (λ u. changed x u refl) is
-    served_says (ask.Activate b st) new stores changed is = tt
-    served_says (ask.Record x b i g) new stores changed is = tt
-    served_says (ask.Vote i ties ends) new stores changed is = tt
-    served_says (ask.Prepare states) new stores changed is = tt
-    served_says (ask.Confirm grants excluded included) new stores changed is = tt
+    served_says (ask.Invoke x b i ends o) new stores changed prepares is = invoked_says x b i ends o new is
+    served_says (ask.Bind x include avoid) new stores changed prepares is = bound_says x include avoid is
+    served_says (ask.Load x) new stores changed prepares is = loaded_says x (stores x refl) (λ u. changed x u refl) is
+    served_says (ask.Activate b st) new stores changed prepares is = tt
+    served_says (ask.Record x b i g) new stores changed prepares is = tt
+    served_says (ask.Vote i ties ends) new stores changed prepares is = tt
+    served_says (ask.Prepare states) new stores changed prepares is = prepared_says states (prepares states refl) is
+    served_says (ask.Confirm grants excluded included) new stores changed prepares is = tt

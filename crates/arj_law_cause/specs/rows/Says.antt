@@ -17,6 +17,7 @@ use Rattle.arj_protocol.specs.Words.bound
 use Rattle.arj_protocol.specs.Words.invoked
 use Rattle.arj_protocol.specs.Words.loaded
 use Rattle.arj_protocol.specs.Words.mode
+use Rattle.arj_protocol.specs.Words.prepared
 use Rattle.arj_law_lock_view.specs.moments.Made.{Saying}
 use Rattle.arj_law_runs.specs.journal.Right.{has_act}
 use Rattle.arj_law_cause.specs.rows.Early.{IsEarly}
@@ -61,7 +62,8 @@ may_be_in_doubt header n u x lines = has_changed lines u x && (may_store header 
 -- A conflict: at a server the call, and at naming its top, meets the row of this holder in this mode, an action that began, at naming no
 -- nested one. Where a server answers with what the operation gives, the action has its lock; naming names a binding to no include; and
 -- where it lets one go on, its top has the entry's write lock. Where a store is in doubt, a state of whom it names may be prepared there;
--- and if the header is in form, the node may be a store of the object, and if the journal is so too, that one changed it.
+-- and if the header is in form, the node may be a store of the object, and if the journal is so too, that one changed it. Where a store
+-- refuses a Prepare for such a state, it is of another action, and then both have changed the object.
 abbrev pub says_of : Header → ℕ → Head → Ask → Reply → List Line → Type 0
 says_of hd n h (ask.Invoke x b i ends o) (Reply.Invoked (invoked.Conflict u m)) before =
     (meets n (uids_of h.path) (object x) (op_mode o) u m before ≡ true) × (has_act (acts before) u ≡ true)
@@ -77,6 +79,9 @@ says_of hd n h (ask.Bind x include avoid) (Reply.Bound (bound.Write g stores)) b
 says_of hd n h (ask.Load x) (Reply.Loaded (loaded.InDoubt u)) before =
     (may_be_pending n u before ≡ true) × (HeaderInForm hd → may_store hd before n x ≡ true)
     × (HeaderInForm hd → IsEarly before → has_changed before u x ≡ true)
+says_of hd n h (ask.Prepare states) (Reply.Prepared (prepared.InDoubt y u)) before =
+    (uid_eq u (actor h.path) ≡ false) × (may_be_pending n u before ≡ true)
+    × (HeaderInForm hd → IsEarly before → (has_changed before (actor h.path) y && has_changed before u y) ≡ true)
 says_of hd n h a r before = ⊤
 
 -- so it is of an answer
