@@ -16,13 +16,13 @@ use Rattle.arj_journal.specs.declared.event.Event.TheVariants as event
 use Rattle.arj_model.specs.CauseSpans.{Here}
 use Rattle.arj_model.specs.Past.{Past, nothing_yet}
 use Rattle.arj_law_cause.specs.form.Form.{AreInForm}
-use Rattle.arj_law_cause.specs.kinds.Kinds.{is_active, is_armed, is_bare_abort, is_bound, is_commit_done, is_committed, is_dropped}
+use Rattle.arj_law_cause.specs.kinds.Kinds.{is_active, is_armed, is_bare_abort, is_bound, is_commit_done, is_committed, is_dropped, is_excluded}
 use Rattle.arj_law_cause.specs.kinds.Kinds.{is_found, is_got, is_granted_entry, is_granted_object, is_halted, is_limit, is_listed_abort}
 use Rattle.arj_law_cause.specs.kinds.Kinds.{is_lock_lowered, is_lost_commit, is_met_abort, is_old_abort, is_opening, is_prepared}
 use Rattle.arj_law_cause.specs.kinds.Kinds.{is_quiet, is_sent}
 use Rattle.arj_law_cause.specs.kinds.Kinds.{is_up, is_void}
 use Rattle.arj_law_cause.specs.kinds.Rows.{row, tested}
-use Rattle.arj_law_cause.specs.kinds.Tests.{is_granted_so, is_committed_so, is_old_so}
+use Rattle.arj_law_cause.specs.kinds.Tests.{is_granted_so, is_committed_so, is_excluded_so, is_old_so}
 use Rattle.arj_law_cause.specs.rows.Lines.{answer_fits}
 use Rattle.arj_law_cause.specs.waits.replies.Ends.{RepliesStep}
 use Rattle.arj_cause_tests.proofs.Words.{Run, after, b, end_from, instead, l, of_other_event, run, u, without}
@@ -298,6 +298,19 @@ prepared_alike = refl
 
 prepared_elsewhere : failing_of is_prepared (instead 23 (body.Prepared 2 (u 1 1 1) role.Names) exclusion) ≡ 23 ∷ []
 prepared_elsewhere = refl
+
+-- `excluded`: what no line says was written, where its commit wasn't called, of another object, and behind its commit
+excluded_unwritten : failing (tested is_excluded_so (λ h. is_excluded)) (without 11 exclusion) ≡ 20 ∷ []
+excluded_unwritten = refl
+
+excluded_uncalled : failing (tested is_excluded_so (λ h. is_excluded)) (without 12 exclusion) ≡ 20 ∷ []
+excluded_uncalled = refl
+
+excluded_another : failing (tested is_excluded_so (λ h. is_excluded)) (instead 21 (body.Excluded (l 65) 2 3) exclusion) ≡ 21 ∷ []
+excluded_another = refl
+
+excluded_late : failing (tested is_excluded_so (λ h. is_excluded)) (after 24 (body.Excluded (l 65) 1 2 ∷ []) exclusion) ≡ 25 ∷ []
+excluded_late = refl
 
 -- `done`: it isn't committed
 done : failing_of is_commit_done (after 17 (body.Done 2 (u 1 1 1) role.Store Commit ∷ []) exclusion) ≡ 18 ∷ []

@@ -4,13 +4,16 @@
 -- surviving write by the journal (`Surviving`). So it is of what a server voted, whatever naming has forgotten since (`Voted`), and at each
 -- moment of a run (`Written`). Whoever is asked to prepare something gets a state (`Filled`), of an object that its top has changed
 -- (`Asks`), by these lines and by more (`Growing`). So each line that says that something is prepared has its cause (`Lines`, `Prepared`).
--- A changed state is of a version above zero (`Above`).
+-- What a commit marks for exclusion it would have sent the store (`Marks`), so the top has changed it for this store (`Excluded`). A changed
+-- state is of a version above zero (`Above`).
 pub mod Above
 pub mod Applied
 pub mod Asks
+pub mod Excluded
 pub mod Filled
 pub mod Growing
 pub mod Lines
+pub mod Marks
 pub mod Prepared
 pub mod Surviving
 pub mod Voted

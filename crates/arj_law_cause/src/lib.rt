@@ -13,9 +13,10 @@
 //! `stops_have_causes`, `restarts_have_causes`, `limits_have_causes`, `openings_have_causes`, `plain_refusals_have_causes`,
 //! `denials_have_causes`, `commits_done_have_causes`, `quiesces_have_causes`, `recoveries_have_causes`, `ends_have_causes`,
 //! `shows_have_causes`, `locks_on_objects_are_free`, `locks_on_entries_are_free`, `bindings_have_causes`,
-//! `copies_have_causes`, `locks_lowered_have_causes`, `lost_commits_have_causes`, `giveups_have_causes`, `refused_commits_have_causes`,
-//! `preparations_have_causes`, `commits_are_called`; `messages_can_be_spelled`, `journals_are_in_form`; `journals_tell_how_nodes_are`,
-//! `quiesces_answer_who_waits`, `rounds_end_quiet`, `asked_alone_is_answered`, `calls_send_one_frame`.
+//! `copies_have_causes`, `locks_lowered_have_causes`, `lost_commits_have_causes`, `giveups_have_causes`,
+//! `refused_commits_have_causes`, `preparations_have_causes`, `commits_are_called`, `exclusions_are_called`;
+//! `messages_can_be_spelled`, `journals_are_in_form`; `journals_tell_how_nodes_are`, `quiesces_answer_who_waits`,
+//! `rounds_end_quiet`, `asked_alone_is_answered`, `calls_send_one_frame`.
 #![tactic(auto)]
 
 mod answers;
@@ -35,7 +36,8 @@ pub use answers::{answers_are_of_their_operations, answers_have_causes};
 pub use bound::{bindings_have_causes, copies_have_causes, locks_lowered_have_causes};
 pub use causes::{
     commits_are_called, commits_done_have_causes, denials_have_causes, ends_have_causes,
-    frame_lines_have_causes, giveups_have_causes, limits_have_causes, locks_on_entries_are_free,
+    exclusions_are_called, frame_lines_have_causes, giveups_have_causes, limits_have_causes,
+    locks_on_entries_are_free,
     locks_on_objects_are_free, lost_commits_have_causes, openings_have_causes,
     plain_refusals_have_causes, preparations_have_causes, quiesces_have_causes,
     recoveries_have_causes, refused_commits_have_causes, restarts_have_causes, shows_have_causes,

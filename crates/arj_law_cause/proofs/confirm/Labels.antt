@@ -26,7 +26,7 @@ use Reached.{reached_kept, worlds_kept}
 
 -- ---- where no label is given, no action begins
 
-right_rest : (B : Book) (ls ks : List Line) → AreRight B (ls ++ ks) → AreRight (book_from B ls) ks
+pub right_rest : (B : Book) (ls ks : List Line) → AreRight B (ls ++ ks) → AreRight (book_from B ls) ks
 right_rest B [] ks right = right
 right_rest B (l ∷ ls) ks right = right_rest (turned B l.body) ls ks right.1
 

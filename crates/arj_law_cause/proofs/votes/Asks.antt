@@ -5,7 +5,7 @@ use Words.{⊎_elim, AllByRecursion, IfSome, in_find, in_filter_map, in_from, is
 use Words.{Ask, Body, Disk, Do, Effect, Say, Send, Head, Header, Label, Line, Message, ObjectState, Parts, Post, Seen, Uid, asks, actor}
 use Words.{object, In}
 use Words.{Confirming, Machine, Node, Preparing, Voting, Plan, Used, ask_of, changed_of, plan_of, state_by, state_for, states_for, has}
-use Words.{root_of}
+use Words.{or_cases, root_of}
 use Words.{Committing, Calling, Doing, Idle, Now, doing_of, again_all, begin_action, parent_of, parts_in, restart_outs, tick_outs}
 use Words.{with_coord}
 use Words.{worked, stopped, is_serial, name}
@@ -32,6 +32,7 @@ use Rattle.arj_law_runs.proofs.coordinators.CoordRooms.{Room}
 use Rattle.arj_law_runs.proofs.coordinators.RunCoords as coords
 use Rattle.arj_law_runs.proofs.journal.{Models.in_later, Models.its_acts, Models.named_in, Owners.acts_more}
 use Rattle.arj_law_runs.proofs.kept.Walked.{same_number}
+use Rattle.arj_model.specs.Actions.{act_in}
 use Rattle.arj_law_runs.specs.journal.Knows.{AreIdle}
 use Rattle.arj_law_runs.specs.journal.Right.{AreRight}
 use Rattle.arj_law_serial.proofs.joint.{Clean.object_some, JoinModel.joined, MarkRuns.IsNamed, MarkRuns.named_at}
@@ -48,6 +49,10 @@ use Rattle.arj_law_cause.proofs.votes.{Filled.message_filled, Filled.restart_fil
 use Rattle.arj_law_cause.proofs.votes.{Growing.among_some, Growing.changes_more, Written.changed_written}
 
 -- ---- what is known of the asked
+
+-- the top with this number has written the object, or includes this store for it
+abbrev pub ChangesFor : List Line → ℕ → ℕ → ℕ → Type 0
+ChangesFor lines id x s = (has_written lines id x || is_among (joins_of lines id x) s) ≡ true
 
 -- the action with this Uid has changed the object of each of these states
 abbrev pub ChangesEach : List Line → Uid → List ObjectState → Type 0
@@ -218,40 +223,55 @@ module _ (hd : Header) (form : HeaderInForm hd) (k : ℕ) (d : Disk) (v : Parts)
         ∙ subst (λ (z : Act). has_included (book N.lines) z.uid w.x s ≡ true) same_act (sym (let l = includes.3 in l.same w.x s)
         ∙ (λ j. has (let y = plan_by (found_in (plan_of m).used once w i j) (changed_of w.x (plan_of m)) in y.joins) s) ∙ on)
 
-    -- so the top has changed what a store is sent
-    pub sends_changed : IsEarly N.lines → (to : ℕ) (st : ObjectState) → In st (states_for to (plan_of m)) →
-        changes N.lines (let a = its_act in a.id) (let z = st.uid in z.num) ≡ true
-    sends_changed early to st i = by (changed_of w.0.x (plan_of m)) refl
+    -- its name is that of the commit
+    pub its_name : act_in (book N.lines).acts (name q.label) ≡ Some its_act
+    unfolding its_act
+    its_name = named.named
+
+    -- so the top has written the object of what a store is sent, or includes this store
+    pub sends_written : IsEarly N.lines → (to : ℕ) (st : ObjectState) → In st (states_for to (plan_of m)) →
+        ChangesFor N.lines (let a = its_act in a.id) (let z = st.uid in z.num) to
+    sends_written early to st i = by (changed_of w.0.x (plan_of m)) refl
       where
         w : (w : Used) × In w (plan_of m).used × (state_for to (plan_of m) w ≡ Some st)
         w = in_filter_map (state_for to (plan_of m)) st (plan_of m).used i
 
-        moved : (x : ℕ) → (let z = st.uid in z.num) ≡ x → changes N.lines (let a = its_act in a.id) x ≡ true →
-            changes N.lines (let a = its_act in a.id) (let z = st.uid in z.num) ≡ true
-        moved x same on = ap (changes N.lines (let a = its_act in a.id)) same ∙ on
-
         wrote : (cs : ObjectState) → changed_of w.0.x (plan_of m) ≡ Some cs → (b : Bool) → cond b (Some cs) None ≡ Some st →
-            changes N.lines (let a = its_act in a.id) (let z = st.uid in z.num) ≡ true
+            ChangesFor N.lines (let a = its_act in a.id) (let z = st.uid in z.num) to
         wrote cs is true same =
             let one : cs ≡ st = (let e : ◌≡◌ {A = Option ObjectState} (Some cs) (Some st) = same in cc e) in
             let f = in_find (λ (z : ObjectState). uid_eq z.uid (object w.0.x)) cs (let y = plan_of m in y.changed) is in
-            moved w.0.x (ap (λ (z : ObjectState). let y = z.uid in y.num) (sym one) ∙ ap (λ (z : Uid). z.num) (uid_is cs.uid
-            (object w.0.x) f.1))
-            (or_left (has_written N.lines (let a = its_act in a.id) w.0.x) (has_some (joins_of N.lines (let a = its_act in a.id) w.0.x))
+            subst (λ y. ChangesFor N.lines (let a = its_act in a.id) y to) (sym (ap (λ (z : ObjectState). let y = z.uid in y.num)
+            (sym one) ∙ ap (λ (z : Uid). z.num) (uid_is cs.uid
+            (object w.0.x) f.1)))
+            (or_left (has_written N.lines (let a = its_act in a.id) w.0.x) (is_among (joins_of N.lines (let a = its_act in a.id) w.0.x) to)
             (has_changed early w.0 w.1 cs is))
         wrote cs is false same = let no_way : ◌≡◌ {A = Option ObjectState} None (Some st) = same in absurd (cc no_way)
 
-        join : (b : Bool) → has w.0.joins to ≡ b → cond b w.0.loaded None ≡ Some st → changes N.lines (let a = its_act in a.id)
-            (let z = st.uid in z.num) ≡ true
-        join true on same = moved w.0.x (ap (λ (z : Uid). z.num) (loaded_of w.0 w.1 st same))
-            (or_right (has_written N.lines (let a = its_act in a.id) w.0.x) (has_some (joins_of N.lines (let a = its_act in a.id) w.0.x))
-            (among_some (joins_of N.lines (let a = its_act in a.id) w.0.x) to (has_joined w.0 w.1 to on)))
+        join : (b : Bool) → has w.0.joins to ≡ b → cond b w.0.loaded None ≡ Some st → ChangesFor N.lines (let a = its_act in a.id)
+            (let z = st.uid in z.num) to
+        join true on same = subst (λ y. ChangesFor N.lines (let a = its_act in a.id) y to) (sym (ap (λ (z : Uid). z.num)
+            (loaded_of w.0 w.1 st same)))
+            (or_right (has_written N.lines (let a = its_act in a.id) w.0.x) (is_among (joins_of N.lines (let a = its_act in a.id) w.0.x) to)
+            (has_joined w.0 w.1 to on))
         join false on same = let no_way : ◌≡◌ {A = Option ObjectState} None (Some st) = same in absurd (cc no_way)
 
-        by : (o : Option ObjectState) → changed_of w.0.x (plan_of m) ≡ o → changes N.lines (let a = its_act in a.id)
-            (let z = st.uid in z.num) ≡ true
+        by : (o : Option ObjectState) → changed_of w.0.x (plan_of m) ≡ o → ChangesFor N.lines (let a = its_act in a.id)
+            (let z = st.uid in z.num) to
         by None is = join (has w.0.joins to) refl (ap (state_by to w.0) (sym is) ∙ w.2)
         by (Some cs) is = wrote cs is (has w.0.stores to || has w.0.joins to) (ap (state_by to w.0) (sym is) ∙ w.2)
+
+    -- and so has changed it
+    pub sends_changed : IsEarly N.lines → (to : ℕ) (st : ObjectState) → In st (states_for to (plan_of m)) →
+        changes N.lines (let a = its_act in a.id) (let z = st.uid in z.num) ≡ true
+    sends_changed early to st i = ⊎_elim
+        (λ wrote. or_left (has_written N.lines (let a = its_act in a.id) (let z = st.uid in z.num))
+        (has_some (joins_of N.lines (let a = its_act in a.id) (let z = st.uid in z.num))) wrote)
+        (λ among. or_right (has_written N.lines (let a = its_act in a.id) (let z = st.uid in z.num))
+        (has_some (joins_of N.lines (let a = its_act in a.id) (let z = st.uid in z.num)))
+        (among_some (joins_of N.lines (let a = its_act in a.id) (let z = st.uid in z.num)) to among))
+        (or_cases (has_written N.lines (let a = its_act in a.id) (let z = st.uid in z.num))
+        (is_among (joins_of N.lines (let a = its_act in a.id) (let z = st.uid in z.num)) to) (sends_written early to st i))
 
   sent_so : (to : ℕ) (h : Head) (a : Ask) → IsSentBy v.coord to h a → IsFilled (Some (h, a)) → AskChanged N.lines (Some (h, a))
   sent_so to h (ask.Prepare states) s filled =

@@ -169,7 +169,7 @@ module _ (u : Uid) where
   given_full (Preparing p left) its = let q = marks_stores left p in confirm_full q.used q
   given_full (Confirming p) its = tt
 
-none_new : (P : Uid → Machine → Type 0) (node inc : ℕ) (telling : List (Uid × Intent)) →
+pub none_new : (P : Uid → Machine → Type 0) (node inc : ℕ) (telling : List (Uid × Intent)) →
     AreAt P (record (new_coord node inc) { telling = telling })
 none_new P node inc telling u d m is now = absurd (by (is_own u (let c = new_coord node inc in c.tree)) u.num is)
   where

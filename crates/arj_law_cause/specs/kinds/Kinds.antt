@@ -166,3 +166,8 @@ is_old_abort _ = false
 abbrev pub is_node_given_up : Body → Bool
 is_node_given_up (body.GaveUp l n) = true
 is_node_given_up _ = false
+
+-- a commit excluded a store
+abbrev pub is_excluded : Body → Bool
+is_excluded (body.Excluded l x n) = true
+is_excluded _ = false
