@@ -1,11 +1,11 @@
 -- A part of the row of what is excluded: while the commit is under way, of a top that has written the object or includes the store for it.
 use Rattle.arj_law.proofs.Reading.{read_none}
 use Rattle.arj_law_parts.proofs.Words
-use Words.{◌≡◌, ◌≢◌, ◌∙◌, ◌&&◌, ◌||◌, ◌++◌, ◌+◌, not, ℕ, Bool, true, false, cond, List, [], ◌∷◌, Option, Some, None, refl, sym, ap, subst}
+use Words.{◌≡◌, ◌∙◌, ◌&&◌, ◌||◌, ◌++◌, ◌+◌, not, ℕ, Bool, true, false, cond, List, [], ◌∷◌, Option, Some, None, refl, sym, ap, subst}
 use Words.{⊎_elim, AllByRecursion, IfSome, and_parts, append-nil, append_assoc, list_all, map, numbered, or_cases, journal_by}
-use Words.{Body, Disk, Do, Effect, Event, Say, Send, Header, Kind, Label, Line, Message, Parts, Seen, Took, Uid, handle, name, is_on}
+use Words.{Body, Disk, Do, Effect, Say, Send, Header, Label, Line, Message, Parts, Seen, Took, Uid, handle, name}
 use Words.{again_all, begin_action, holders, parent_of, parts_in, query_about, restart_outs, tick_outs, tolds_again, with_coord, worked}
-use Words.{Input, Machine, Committing, Doing, Node, doing_of, end_line, CallEnd, Goal, Include, Run, plan_of, say_for, says}
+use Words.{Input, Machine, Committing, Doing, doing_of, end_line, CallEnd, Goal, Include, Run, plan_of, say_for, says}
 use Words.{is_committing_now}
 use Words.{acts as acts_of}
 use Words.{Handled, Void, is_meant}
@@ -13,7 +13,6 @@ use Words.{acts_own, again_own, all_both, is_serial, tolds_again_own, AreAll, is
 use Words.body
 use Words.calls
 use Words.commit
-use Words.input
 use Rattle.arj_journal.specs.ScriptForm.{HeaderInForm}
 use Rattle.arj_law_disk_view.proofs.Terms.{or_left, or_right}
 use Rattle.arj_law_lock_view.proofs.Terms.{Up, Walks, given, posted, said, up, walks_both}
@@ -27,7 +26,7 @@ use Rattle.arj_law_runs.proofs.follow.Halts.{KnowsAll, halts_keep}
 use Rattle.arj_law_runs.proofs.journal.{Books.book_more, Models.its_end, Models.its_acts, Models.named_in, Models.right_before}
 use Rattle.arj_law_runs.proofs.kept.Walked.{same_number}
 use Rattle.arj_law_runs.specs.follow.Frames.{are_so, run_events}
-use Rattle.arj_law_runs.specs.journal.Book.{book, is_over, new_book}
+use Rattle.arj_law_runs.specs.journal.Book.{book, new_book}
 use Rattle.arj_law_runs.specs.journal.Right.{AreRight, Right}
 use Rattle.arj_law_serial.proofs.holding.Says as saying
 use Rattle.arj_law_serial.proofs.joint.MarkMoves.{acts_stay}
@@ -37,10 +36,9 @@ use Rattle.arj_model.specs.Actions.{Act, act_in, acts, ended, halt_of, halts, ha
 use Rattle.arj_model.specs.Actions as model
 use Rattle.arj_model.specs.Calls.{committings}
 use Rattle.arj_model.specs.CausePends.{has_written}
-use Rattle.arj_model.specs.CauseSpans.{Here, behind, commit_here, commits_so, holds_in}
+use Rattle.arj_model.specs.CauseSpans.{Here, behind, commit_here, holds_in}
 use Rattle.arj_model.specs.Follows.{Step}
 use Rattle.arj_model.specs.Last.{is_among, joins_of}
-use Rattle.arj_model.specs.Past.{Past}
 use Rattle.arj_model.specs.Refusals.{holds_of, is_committing, was_called}
 use Rattle.arj_promise.specs.Runs.{Run as RunOf}
 use Rattle.arj_law_cause.proofs.confirm.{Joined.IsEarly, Joined.early_before, Labels.right_rest, Reached.Reached, Reached.reached_has}

@@ -1,6 +1,6 @@
 -- What a commit marks for exclusion: of an object of which it has a state for the store.
 use Rattle.arj_law_parts.proofs.Words
-use Words.{⊤, ◌≡◌, ℕ, List, [], ◌∷◌, refl, sym, ap, subst, inl, inr, AllByRecursion, map}
+use Words.{⊤, ◌≡◌, ℕ, List, [], ◌∷◌, refl, sym, subst, inl, inr, AllByRecursion, map}
 use Words.{ObjectState, Reply, Uid, Branch, Coord, actor, doing_of, last_req, plan_for, root_at, root_of}
 use Words.{In, Confirming, Machine, Plan, Preparing, Used, Voting, begin_confirm, begin_prepare, begin_vote, marks_at, marks_store}
 use Words.{marks_stores, plan_of, servers_of, states_for, stores_left, targets_of, votes_left, with_number, without_number}
