@@ -96,6 +96,9 @@ changed_before = refl
 naming_later : failing answer_fits (instead 27 (body.Changed (l 76) 1 (difference.Inc 1 3)) changed_inc_naming) ≡ 27 ∷ []
 naming_later = refl
 
+naming_before : failing answer_fits (instead 27 (body.Changed (l 76) 1 (difference.Inc 2 1)) changed_inc_naming) ≡ 27 ∷ []
+naming_before = refl
+
 -- a store says a conflict: another one than loaded, and a lock that no store has
 stores_conflict : failing answer_fits (instead 47 (body.Conflict (l 66) (u 2 1 1) Write 4) conflict_pending) ≡ 47 ∷ []
 stores_conflict = refl

@@ -18,7 +18,7 @@ ghost use Rattle.arj_law_cause.specs.rows.Lines.{AnswersHaveCauses};
 /// either; and there the one copy was active before the other at the node, as it showed in the span, or the node was in the new
 /// incarnation in the span, and in the old one had a copy of the object. Of what naming told of itself it says less: of two
 /// bindings, that it made both, and which is older, not that the root had one of them from another call; and of two incarnations, that
-/// its node was in the new one in the span, not that the root was there in the old one. It does nothing when it runs.
+/// its node was in the new one, which is the later one, in the span, not that the root was there in the old one. It does nothing when it runs.
 pub fn answers_have_causes()
     ensures runs { AnswersHaveCauses }
 {}

@@ -37,6 +37,10 @@ use Rattle.arj_law_parts.proofs.parts.LivesNamed.{keyed_at, keyed_each, keyed_pu
 use Rattle.arj_law_parts.specs.parts.Lives.{IsLoadedOf, IsOfObject}
 use Rattle.arj_law_cause.proofs.bindings.Named.{OfInc, OfServer}
 
+-- naming granted its lock in the incarnation that made the binding
+abbrev pub IsGrant : Binding → ℕ → Type 0
+IsGrant b g = g ≡ b.inc
+
 module _ (N A : OfServer) (I : OfInc) where
   -- ---- what is known
 
@@ -59,9 +63,9 @@ module _ (N A : OfServer) (I : OfInc) where
 
   -- the step in which a call on the object waits; an include doesn't activate
   abbrev pub IsAtSo : ℕ → Goal → At → Type 0
-  IsAtSo x (Run o) (AtLoad k s rest) = IsKnownSo x k
-  IsAtSo x (Run o) (AtActivate k st) = IsKnownSo x k × ((let u = st.uid in u.num) ≡ x)
-  IsAtSo x (Run o) (AtNote k i) = IsKnownSo x k × A x k.binding k.server × I x k.binding k.server i
+  IsAtSo x (Run o) (AtLoad k s rest) = IsKnownSo x k × IsGrant k.binding k.grant
+  IsAtSo x (Run o) (AtActivate k st) = IsKnownSo x k × ((let u = st.uid in u.num) ≡ x) × IsGrant k.binding k.grant
+  IsAtSo x (Run o) (AtNote k i) = IsKnownSo x k × A x k.binding k.server × I x k.binding k.server i × IsGrant k.binding k.grant
   IsAtSo x (Run o) (AtInvoke k i) = IsKnownSo x k × IsSaidSo x k.binding k.server i
   IsAtSo x (Run o) at = ⊤
   IsAtSo x (Include n) (AtActivate k st) = ⊥
@@ -81,7 +85,7 @@ module _ (N A : OfServer) (I : OfInc) where
   -- a request to a node
   abbrev pub AskSo : ℕ → Ask → Type 0
   AskSo to (ask.Activate b st) = N (let u = st.uid in u.num) b to
-  AskSo to (ask.Record x b i g) = (s : ℕ) × N x b s × A x b s × I x b s i
+  AskSo to (ask.Record x b i g) = (s : ℕ) × N x b s × A x b s × I x b s i × IsGrant b g
   AskSo to (ask.Invoke x b i ends o) = N x b to × IsSaidSo x b to i
   AskSo to a = ⊤
 
@@ -92,7 +96,7 @@ module _ (N A : OfServer) (I : OfInc) where
   -- an answer of a node
   abbrev pub BoundSo : ℕ → Bool → BoundReply → Type 0
   BoundSo x include (bound.Live b server i g stores) = (include ≡ false) × N x b server × I x b server i
-  BoundSo x include (bound.Make b server g stores) = (include ≡ false) × N x b server
+  BoundSo x include (bound.Make b server g stores) = (include ≡ false) × N x b server × IsGrant b g
   BoundSo x include (bound.Write g stores) = include ≡ true
   BoundSo x include (bound.Conflict holder m) = ⊤
 
@@ -189,7 +193,8 @@ module _ (N A : OfServer) (I : OfInc)
       by [] = (tt, ko)
       by (s ∷ ss) =
           let known : IsKnownSo N A I x (made_known b server n stores) = (its.1, λ i is. no_inc i is) in
-          by_so x (Run o) free (made_known b server n stores) (AtLoad (made_known b server n stores) s ss) kept known ko known
+          by_so x (Run o) free (made_known b server n stores) (AtLoad (made_known b server n stores) s ss) kept known ko
+          (known, its.2)
   bound_so x free kept (Include s) (bound.Make b server n stores) ko its = let q = its.0 in absurd (cc q)
   bound_so x free kept (Run o) (bound.Write n stores) ko its = absurd (cc its)
   bound_so x free kept (Include i) (bound.Write n stores) ko its = by stores
@@ -201,7 +206,7 @@ module _ (N A : OfServer) (I : OfInc)
 
   loaded_so : (x : ℕ) (kept : Option Known) (k : Known) (s : ℕ) (rest : List ℕ) (g : Goal) (r : LoadedReply) → IsKeptSo N A I x kept →
       IsAtSo N A I x g (AtLoad k s rest) → IsLoadedOf x r → IsMovedSo N A I x g (loaded_answer kept k s g r)
-  loaded_so x kept k s rest (Run o) (loaded.State st) ko its of_x = ((its, of_x), ko)
+  loaded_so x kept k s rest (Run o) (loaded.State st) ko its of_x = ((its.0, of_x, its.1), ko)
   loaded_so x kept k s rest (Include n) (loaded.State st) ko its of_x = (tt, ko)
   loaded_so x kept k s rest (Run o) (loaded.InDoubt holder) ko its of_x = (tt, ko)
   loaded_so x kept k s rest (Include n) (loaded.InDoubt holder) ko its of_x = (tt, ko)
@@ -217,7 +222,12 @@ module _ (N A : OfServer) (I : OfInc)
       its_inc = subst (λ y. I y k.binding k.server i) its.1 active.1
 
       on : IsAtSo N A I x (Run o) (AtNote k i)
-      on = (its.0, subst (λ y. A y k.binding k.server) its.1 active.0, subst (λ y. I y k.binding k.server i) its.1 active.1)
+      on = (
+        its.0,
+        subst (λ y. A y k.binding k.server) its.1 active.0,
+        subst (λ y. I y k.binding k.server i) its.1 active.1,
+        its.2,
+      )
 
       by : (q : Option Known) → IsKeptSo N A I x q → IsMovedSo N A I x (Run o) (activated_by k i q)
       by None kq = (on, tt)
@@ -317,7 +327,7 @@ module _ (N A : OfServer) (I : OfInc)
   asks_so x g ends (AtLoad k n rest) its = tt
   asks_so x (Run o) ends (AtActivate k st) its = subst (λ y. N y k.binding k.server) (sym its.1) (let z = its.0 in z.0)
   asks_so x (Include n) ends (AtActivate k st) its = absurd its
-  asks_so x (Run o) ends (AtNote k i) its = (k.server, (let z = its.0 in z.0), its.1, its.2)
+  asks_so x (Run o) ends (AtNote k i) its = (k.server, (let z = its.0 in z.0), its.1, its.2, its.3)
   asks_so x (Include n) ends (AtNote k i) its = absurd its
   asks_so x (Run o) ends (AtInvoke k i) its = ((let z = its.0 in z.0), its.1)
   asks_so x (Include n) ends (AtInvoke k i) its = absurd its
@@ -533,10 +543,10 @@ module _ (N M A B : OfServer) (I J : OfInc) (more : (x : ℕ) (b : Binding) (s :
 
     at_map : (x : ℕ) (g : Goal) (at : At) → IsAtSo N A I x g at → IsAtSo M B J x g at
     at_map x (Run o) (AtBind avoid) its = tt
-    at_map x (Run o) (AtLoad k s rest) its = known_map x k its
-    at_map x (Run o) (AtActivate k st) its = (known_map x k its.0, its.1)
+    at_map x (Run o) (AtLoad k s rest) its = (known_map x k its.0, its.1)
+    at_map x (Run o) (AtActivate k st) its = (known_map x k its.0, its.1, its.2)
     at_map x (Run o) (AtNote k i) its =
-        (known_map x k its.0, most x k.binding k.server its.1, last x k.binding k.server i its.2)
+        (known_map x k its.0, most x k.binding k.server its.1, last x k.binding k.server i its.2, its.3)
     at_map x (Run o) (AtInvoke k i) its = (known_map x k its.0, said_map x k.binding k.server i its.1)
     at_map x (Include n) (AtBind avoid) its = tt
     at_map x (Include n) (AtLoad k s rest) its = tt
@@ -567,7 +577,7 @@ module _ (N M A B : OfServer) (I J : OfInc) (more : (x : ℕ) (b : Binding) (s :
     ask_map to (Some (h, ask.Bind x i avoid)) its = tt
     ask_map to (Some (h, ask.Load x)) its = tt
     ask_map to (Some (h, ask.Activate b st)) its = more (let u = st.uid in u.num) b to its
-    ask_map to (Some (h, ask.Record x b i g)) its = (its.0, more x b its.0 its.1, most x b its.0 its.2, last x b its.0 i its.3)
+    ask_map to (Some (h, ask.Record x b i g)) its = (its.0, more x b its.0 its.1, most x b its.0 its.2, last x b its.0 i its.3, its.4)
     ask_map to (Some (h, ask.Invoke x b i ends o)) its = (more x b to its.0, said_map x b to i its.1)
     ask_map to (Some (h, ask.Vote i ties ends)) its = tt
     ask_map to (Some (h, ask.Prepare states)) its = tt
@@ -575,7 +585,7 @@ module _ (N M A B : OfServer) (I J : OfInc) (more : (x : ℕ) (b : Binding) (s :
 
     bound_map : (x : ℕ) (include : Bool) (r : BoundReply) → BoundSo N A I x include r → BoundSo M B J x include r
     bound_map x include (bound.Live b server i g stores) its = (its.0, more x b server its.1, last x b server i its.2)
-    bound_map x include (bound.Make b server g stores) its = (its.0, more x b server its.1)
+    bound_map x include (bound.Make b server g stores) its = (its.0, more x b server its.1, its.2)
     bound_map x include (bound.Write g stores) its = its
     bound_map x include (bound.Conflict holder m) its = its
 

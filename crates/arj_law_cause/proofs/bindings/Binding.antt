@@ -49,6 +49,11 @@ above_is avoid (Some k) m is = by k.recorded refl (binding_less avoid k.binding)
     by false fresh false same = let no_way : ◌≡◌ {A = Option Made} None (Some m) = same in absurd (cc no_way)
     by true stale b same = let no_way : ◌≡◌ {A = Option Made} None (Some m) = same in absurd (cc no_way)
 
+-- what makes a binding grants the lock in this incarnation
+abbrev pub GrantsNow : ℕ → Option BoundReply → Type 0
+GrantsNow inc (Some (bound.Make b server g stores)) = g ≡ inc
+GrantsNow inc r = ⊤
+
 module _ (inc x : ℕ) (p : Path) (e : Entry) (c : Counted) where
   abbrev pub Shape : Served Counted BoundReply → Type 0
   Shape r = IsLight x p c r ⊎ (r ≡ bound_new inc x p e c (next_server (let o = c.named in o.turn) e.servers))
@@ -102,6 +107,30 @@ module _ (inc x : ℕ) (p : Path) (e : Entry) (c : Counted) where
     rows = inr (mode.Write, refl);
     again = tt;
   })
+
+  pub bind_grants : (include : Bool) (avoid : Binding) → GrantsNow inc (bind_named inc x p include avoid e c).reply
+  bind_grants true avoid = by (conflict_on x p mode.Write c.named)
+    where
+      by : (r : Option Row) → GrantsNow inc (include_asked inc x p e c r).reply
+      by None = tt
+      by (Some r) = tt
+  bind_grants false avoid = call (live_above avoid c.named.live)
+    where
+      live : (l : Live) (r : Option Row) → GrantsNow inc (live_asked inc x p e c l r).reply
+      live l None = tt
+      live l (Some r) = tt
+
+      made : (q : Option Made) → GrantsNow inc (bind_made inc x p e c q).reply
+      made None = refl
+      made (Some m) = refl
+
+      asked : (r : Option Row) → GrantsNow inc (make_asked inc x p avoid e c r).reply
+      asked None = made (made_above avoid (at_uid (top_of p) c.named.made))
+      asked (Some r) = tt
+
+      call : (l : Option Live) → GrantsNow inc (bind_call inc x p avoid e c l).reply
+      call (Some l) = live l (conflict_on x p mode.Read c.named)
+      call None = asked (conflict_on x p mode.Write c.named)
 
   pub bind_shape : (include : Bool) (avoid : Binding) → Shape (bind_named inc x p include avoid e c)
   bind_shape true avoid = include_shape (conflict_on x p mode.Write c.named)

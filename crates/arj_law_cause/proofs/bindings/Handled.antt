@@ -43,8 +43,8 @@ use Rattle.arj_law_runs.proofs.kept.Handled.{good_coord, it, one_tree, own_of_di
 use Rattle.arj_law_runs.proofs.kept.Walked.{same_number}
 use Rattle.arj_law_runs.specs.calls.Coords.{IsOfStep}
 use Rattle.arj_law_cause.proofs.bindings.Asking
-use Asking.{AllSo, AreAtSo, AskedSo, BoundSo, FitsCall, ReplySo, at_acked, at_heard}
-use Rattle.arj_law_cause.proofs.bindings.Binding.{bind_shape}
+use Asking.{AllSo, AreAtSo, AskedSo, BoundSo, FitsCall, IsGrant, ReplySo, at_acked, at_heard}
+use Rattle.arj_law_cause.proofs.bindings.Binding.{GrantsNow, bind_grants, bind_shape}
 use Rattle.arj_law_cause.proofs.bindings.Copies.{HasCopies, active_by}
 use Rattle.arj_law_cause.proofs.bindings.Counted.{HasNames, IsGiven, lined_in}
 use Rattle.arj_law_cause.proofs.bindings.Lines.{IsLined, active_last, lined_last, lined_more}
@@ -180,6 +180,29 @@ module _ (k : ℕ) (d : Disk) (t : Parts) (M : Seen) (good : IsGood (up k d t M)
         by true = inl refl
         by false = found (at_number x n.objects) refl
 
+    -- what makes a binding grants the lock in the incarnation of the binding
+    granted : (b : Binding) (s g : ℕ) (stores : List ℕ) → full.reply ≡ Some (bound.Make b s g stores) → IsGrant b g
+    granted b s g stores replied = subst (GrantsNow n.inc) replied grants ∙ sym (of_inc.1 (bound.Make b s g stores) replied)
+      where
+        of_inc : IsNamingSo (λ y c z. c.inc ≡ n.inc) (λ y c z i. ⊤) full.part
+            × ((a : BoundReply) → full.reply ≡ Some a → NamesBound (λ y c z. c.inc ≡ n.inc) (λ y c z i. ⊤) x a)
+        of_inc = bind_so (λ y c z. c.inc ≡ n.inc) (λ y c z i. ⊤) h.path x include avoid d.names n (λ o there more. refl)
+            (naming_map (lined_in M.start ls) (λ y c z. c.inc ≡ n.inc) (λ y c z i. ⊤) (λ y c z i. ⊤)
+            (λ y c z q. q.1 ∙ sym (let u = names n at in u.inc)) (λ y c z i q. q) n (let u = names n at in u.lined))
+
+        grants : GrantsNow n.inc full.reply
+        grants = by (is_over h.path n)
+          where
+            found : (o : Option Named) → GrantsNow n.inc
+                (on_counted x (bind_named n.inc x h.path include avoid (listed_entry x d.names)) n o).reply
+            found None = tt
+            found (Some q) = bind_grants n.inc x h.path (listed_entry x d.names) (record { named = q; count = n.count }) include avoid
+
+            by : (c : Bool) → GrantsNow n.inc (cond {A = Served Naming BoundReply} c (void n)
+                (on_counted x (bind_named n.inc x h.path include avoid (listed_entry x d.names)) n (at_number x n.objects))).reply
+            by true = tt
+            by false = found (at_number x n.objects)
+
     reply_so : (ms : List Line) → Later ls ms → ((o : Named) → at_number x n.objects ≡ Some o →
         (let v = full.part in v.count) ≡ n.count + 1 →
         IsLined ms x next (next_server o.turn servers)) → (r : BoundReply) → full.reply ≡ Some r →
@@ -188,15 +211,16 @@ module _ (k : ℕ) (d : Disk) (t : Parts) (M : Seen) (good : IsGood (up k d t M)
         both r (λ y b s i z. l.met M.start y b s i z) (bind_kind h.path x include avoid d.names n r replied) (so.1 r replied)
         ((bind_so (IsLined ms) (λ y b s i. ⊤) h.path x include avoid d.names n new
         (naming_map (lined_in M.start ls) (IsLined ms) (λ y b s i. ⊤) (λ y b s i. ⊤) (λ y b s z. l.lined y b s z.0) (λ y b s i z. z) n
-        (let c = names n at in c.lined))).1 r replied)
+        (let c = names n at in c.lined))).1 r replied) (λ b s g stores same. granted b s g stores (replied ∙ ap Some same))
       where
         both : (r : BoundReply) → ((y : ℕ) (b : Binding) (s i : ℕ) → met_in M.start M.lines y b s i → met_in M.start ms y b s i) →
             IsOfGoal include r → NamesBound anything (met_in M.start M.lines) x r → NamesBound (IsLined ms) (λ y b s i. ⊤) x r →
+            ((b : Binding) (s g : ℕ) (stores : List ℕ) → r ≡ bound.Make b s g stores → IsGrant b g) →
             BoundSo (IsLined ms) (active_by ms) (met_in M.start ms) x include r
-        both (bound.Live b s i g stores) later goal met named = (goal, named.0, later x b s i met.1)
-        both (bound.Make b s g stores) later goal met named = (goal, named)
-        both (bound.Write g stores) later goal met named = goal
-        both (bound.Conflict u w) later goal met named = tt
+        both (bound.Live b s i g stores) later goal met named granted = (goal, named.0, later x b s i met.1)
+        both (bound.Make b s g stores) later goal met named granted = (goal, named, granted b s g stores refl)
+        both (bound.Write g stores) later goal met named granted = goal
+        both (bound.Conflict u w) later goal met named granted = tt
 
     bind_by : By (served from h (with_naming t) Reply.Bound full)
     bind_by = by full.reply refl
@@ -347,7 +371,7 @@ module _ (k : ℕ) (d : Disk) (t : Parts) (M : Seen) (good : IsGood (up k d t M)
       At M.start M.lines (with_naming t (naming.note h.path x b i g n).part)
   noted h x b i g is n at = (mine.0, λ o same. subst (IsNamingSo anything (met_in M.start M.lines)) (some_is same) after)
     where
-      asked_so : (s : ℕ) × IsLined M.lines x b s × active_by M.lines x b s × met_in M.start M.lines x b s i
+      asked_so : (s : ℕ) × IsLined M.lines x b s × active_by M.lines x b s × met_in M.start M.lines x b s i × IsGrant b g
       asked_so = subst (AskedSo (IsLined M.lines) (active_by M.lines) (met_in M.start M.lines) k) is its.asking
 
       after : IsNamingSo anything (met_in M.start M.lines) (naming.note h.path x b i g n).part

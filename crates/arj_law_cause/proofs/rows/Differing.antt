@@ -15,6 +15,7 @@ use Words.{uids_of}
 use Words.{Handled, Naming, Parts, Took, Void, handle, handle_ask, if_naming, is_meant, is_over, note_named, on_named, sends_answer}
 use Words.{serve, served}
 use Words.{top_of, with_naming, with_server, Node, numbered, binding_less}
+use Words.{length}
 use Words.ask
 use Words.body
 use Words.invoked
@@ -32,9 +33,9 @@ use Rattle.arj_model.specs.Actions.{Placed}
 use Rattle.arj_model.specs.CauseCopies.{Activation, had_both, is_at, is_older, is_under, same_binding}
 use Rattle.arj_model.specs.Refusals.{incarnation}
 use Rattle.arj_law_cause.proofs.bindings.Active.{older_is}
-use Rattle.arj_law_cause.proofs.bindings.Asking.{AskedSo, IsSaidSo}
+use Rattle.arj_law_cause.proofs.bindings.Asking.{AskSo, AskedSo, IsSaidSo}
 use Rattle.arj_law_cause.proofs.bindings.Copies.{HasCopies, active_by}
-use Rattle.arj_law_cause.proofs.bindings.Counted.{IsGiven}
+use Rattle.arj_law_cause.proofs.bindings.Counted.{IsBefore, IsGiven}
 use Rattle.arj_law_cause.proofs.bindings.Lines.{IsLined, inc_with}
 use Rattle.arj_law_cause.proofs.bindings.Resting.{binding_at, ends_stay}
 use Rattle.arj_law_cause.proofs.bindings.Said.{KnowsBindings}
@@ -63,7 +64,7 @@ says_differs st n h (ask.Invoke x b i ends o) (Reply.Invoked (invoked.Changed w)
     HasFewBindings before → Differs st n x w before × ((j k : ℕ) → w ≡ what.Inc j k → j ≡ i)
 says_differs st n h (ask.Activate b s) (Reply.Activated i) before = (incarnation st before n ≡ i) × AreLow st before
 says_differs st n h (ask.Record x b i g) (Reply.Noted (recorded.Changed w)) before =
-    (n ≡ 1) × (w ≡ what.Inc g (incarnation st before 1)) × ((g == incarnation st before 1) ≡ false)
+    (n ≡ 1) × (w ≡ what.Inc g (incarnation st before 1)) × (g < incarnation st before 1)
 says_differs st n h a r before = ⊤
 
 -- so it is of an answer
@@ -419,10 +420,29 @@ module _ (k : ℕ) (d : Disk) (t v : Parts) (from : ℕ) (m : Message) (h : Head
               (front ≡ []) ⊎ (front ≡ Say (body.Active k (let z = u.uid in z.num) b) ∷ [])
           wrote same did = subst (λ fs. (fs ≡ []) ⊎ (fs ≡ Say (body.Active k (let z = u.uid in z.num) b) ∷ [])) same did
 
-  noted_says : (x : ℕ) (b : Binding) (i g : ℕ) → Sent (serve k d t from h (ask.Record x b i g)) →
+  noted_says : (x : ℕ) (b : Binding) (i g : ℕ) → asks m ≡ Some (h, ask.Record x b i g) → Sent (serve k d t from h (ask.Record x b i g)) →
       says_differs M.seen.start k h (ask.Record x b i g) r (lines_behind M.past.number front M.seen.lines)
-  noted_says x b i g is = with_it t.naming refl is
+  noted_says x b i g asks_it is = with_it t.naming refl is
     where
+      its : AskSo (IsLined M.seen.lines) (active_by M.seen.lines) (met_in M.seen.start M.seen.lines) k (ask.Record x b i g)
+      its = subst (AskedSo (IsLined M.seen.lines) (active_by M.seen.lines) (met_in M.seen.start M.seen.lines) k) asks_it asking
+
+      -- its binding was made in an incarnation of naming up to this one
+      earlier : (g == incarnation M.seen.start M.seen.lines 1) ≡ false → g < incarnation M.seen.start M.seen.lines 1
+      earlier off = by (let z = known.2.0.1.1.0 in z.older x b its.0 its.1)
+        where
+          less : (j k : ℕ) → g ≡ j → j < k → g < k
+          less j k same low = omega (arith, same, low)
+
+          never : (j k : ℕ) → g ≡ j → j ≡ k → (g == k) ≡ false → g < k
+          never j k same is none = let no_way : true ≡ false = sym (Words.eq-eqb g k (same ∙ is)) ∙ none in absurd (cc no_way)
+
+          by : IsBefore (incarnation M.seen.start M.seen.lines 1) (length (Rattle.arj_law_cause.proofs.bindings.Lines.made M.seen.lines))
+              b →
+              g < incarnation M.seen.start M.seen.lines 1
+          by (inl low) = less b.inc (incarnation M.seen.start M.seen.lines 1) its.4 low
+          by (inr same) = never b.inc (incarnation M.seen.start M.seen.lines 1) its.4 same.0 off
+
       named : (o : Naming) → t.naming ≡ Some o → Sent (served from h (with_naming t) Reply.Noted (naming.note h.path x b i g o)) →
           says_differs M.seen.start k h (ask.Record x b i g) r (lines_behind M.past.number front M.seen.lines)
       named o at_it e = by (naming.note h.path x b i g o).reply refl e
@@ -437,7 +457,7 @@ module _ (k : ℕ) (d : Disk) (t v : Parts) (from : ℕ) (m : Message) (h : Head
               let z = note_says h x b i g o w at in
               subst (λ fs. says_differs M.seen.start k h (ask.Record x b i g) (Reply.Noted (recorded.Changed w))
               (lines_behind M.past.number fs M.seen.lines)) (sym z.2 ∙ same)
-              (c.first, z.0 ∙ ap (what.Inc g) c.inc, subst (λ j. (g == j) ≡ false) c.inc z.1)
+              (c.first, z.0 ∙ ap (what.Inc g) c.inc, earlier (subst (λ j. (g == j) ≡ false) c.inc z.1))
 
           by : (f : Option RecordedReply) → (naming.note h.path x b i g o).reply ≡ f →
               Sent (sends_answer from h (with_naming t (naming.note h.path x b i g o).part) (naming.note h.path x b i g o).outs
@@ -459,7 +479,7 @@ module _ (k : ℕ) (d : Disk) (t v : Parts) (from : ℕ) (m : Message) (h : Head
       says_differs M.seen.start k h a r (lines_behind M.past.number front M.seen.lines)
   served_differs (ask.Invoke x b i ends o) asks_it new is = invoked_says x b i ends o asks_it new is
   served_differs (ask.Activate b u) asks_it new is = activated_says b u is
-  served_differs (ask.Record x b i g) asks_it new is = noted_says x b i g is
+  served_differs (ask.Record x b i g) asks_it new is = noted_says x b i g asks_it is
   served_differs (ask.Bind x include avoid) asks_it new is = tt
   served_differs (ask.Load x) asks_it new is = tt
   served_differs (ask.Vote i ties ends) asks_it new is = tt

@@ -605,14 +605,18 @@ module _ (hd : Header) (k : ℕ) (M : Moment) (h : Here) (header : h.header ≡ 
           r ≡ Reply.Noted (recorded.Changed v) → n ≡ 1 → Fits n v
       noted_so x i o n v goal at is one = subst (λ z. Fits n z) (sym so.1)
           (partly n (what.Inc x.grant (incarnation M.seen.start D.before 1)) o goal (naming_tells n told_it)
-          (λ j. eq-eqb n 1 one j && (told_it j && (not (so.2 j) && shown_at h q 1 s.x D.before D.after (lines ∙ D.are) D.late
+          (λ j. eq-eqb n 1 one j && (told_it j && (lower x.grant (incarnation M.seen.start D.before 1) so.2 j && shown_at h q 1 s.x
+              D.before D.after (lines ∙ D.are) D.late
           (incarnation M.seen.start D.before 1) (ap (λ z. incarnation z D.before 1) start) j))))
         where
           so : (from ≡ 1) × (v ≡ what.Inc x.grant (incarnation M.seen.start D.before 1))
-              × ((x.grant == incarnation M.seen.start D.before 1) ≡ false)
+              × (x.grant < incarnation M.seen.start D.before 1)
           so = subst (λ y. says_differs M.seen.start from (head_of s) y (Reply.Noted (recorded.Changed v)) D.before)
               (record_is D.ask s.x x.binding i x.grant (D.same ∙ (λ j. ask_at s.x s.goal [] (at j))))
               (subst (λ y. says_differs M.seen.start from (head_of s) D.ask y D.before) is D.so)
+
+          lower : (j k : ℕ) → j < k → nat_lt j k ≡ true
+          lower j k is = grind (arith, nat_tests, is)
 
           told_it : naming_told h c.act q ≡ true
           told_it = naming_says frame.Recorded so.0 (ap (λ y. frame_kind (response a y)) is) refl
@@ -714,7 +718,8 @@ module _ (hd : Header) (k : ℕ) (M : Moment) (h : Here) (header : h.header ≡ 
         called = by (called_at T.before v) refl so.0
           where
             by : (o : Option (Placed (List Act))) → called_at T.before v ≡ o →
-                holds_in (λ (z : Placed (List Act)). may_pend from v (take z.at T.before) false (drop z.at T.before)) o ≡ true → IsCalledAt T.before v
+                holds_in (λ (z : Placed (List Act)). may_pend from v (take z.at T.before) false (drop z.at T.before)) o ≡ true →
+                    IsCalledAt T.before v
             by None none e = absurd (cc e)
             by (Some z) some e = (z, some)
 

@@ -1,5 +1,5 @@
 -- The lines that answer calls, against the causes that the journal has for them.
-use Rattle.std.specs.Prelude.{◌≡◌, ◌==◌, ℕ, List, [], ◌∷◌, Bool, true, ◌&&◌, ◌||◌, not}
+use Rattle.std.specs.Prelude.{◌≡◌, ◌==◌, ℕ, List, [], ◌∷◌, Bool, true, ◌&&◌, ◌||◌, nat_lt, not}
 use Rattle.arj_base.specs.Rows.{is_on}
 use Rattle.arj_base.specs.declared.mode.Mode.{Mode}
 use Rattle.arj_base.specs.declared.uid.Uid.{Uid}
@@ -37,11 +37,11 @@ came_from_store h l u held n = same_mode held Write
 abbrev pub naming_told : Here → Act → Asked → Bool
 naming_told h a k = (a.uid.node == 1) || was_sent h k.at 1 a.uid.node (frame.Bound ∷ frame.Recorded ∷ [])
 
--- Naming told of it, at its node: it was in the new incarnation since the call, and the other one isn't that; or it made both bindings, the
--- older one first.
+-- Naming told of it, at its node: it was in the new incarnation since the call, and the other one is before that; or it made both bindings,
+-- the older one first.
 abbrev pub may_differ : Here → Act → Asked → ℕ → ℕ → Difference → Bool
 may_differ h a k n x (difference.Inc had now) =
-    (n == 1) && (naming_told h a k && (not (had == now) && from_place h k.at (λ before. incarnation h.start before 1 == now)))
+    (n == 1) && (naming_told h a k && (nat_lt had now && from_place h k.at (λ before. incarnation h.start before 1 == now)))
 may_differ h a k n x (difference.Bind had now) =
     (n == 1) && (naming_told h a k && (is_older had now && (was_bound h.lines x had && was_bound h.lines x now)))
 
