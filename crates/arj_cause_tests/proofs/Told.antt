@@ -110,6 +110,14 @@ stores_lock = refl
 stores_holder : failing answer_fits (instead 47 (body.Conflict (l 66) (u 3 1 1) Write 3) conflict_pending) ≡ 47 ∷ []
 stores_holder = refl
 
+-- it names one that only read
+stores_changed : failing answer_fits (instead 19 (body.Ok (l 65) 1 op.Get (codes "0")) conflict_pending) ≡ 19 ∷ 47 ∷ []
+stores_changed = refl
+
+-- the store stopped, and was sent nothing to prepare
+stores_stopped : failing answer_fits (instead 31 (body.Halted 3) (instead 21 (body.Sent 7 2 3 frame.Vote) conflict_pending)) ≡ 47 ∷ []
+stores_stopped = refl
+
 -- nothing of it was prepared there
 stores_pending : failing answer_fits (instead 31 (body.Prepared 3 (u 2 1 1) role.Names) conflict_pending) ≡ 47 ∷ []
 stores_pending = refl
