@@ -114,6 +114,14 @@ answer_twice : SendsStep two_nodes binding (event.Deliver (Number 1))
     (body.Got 1 ∷ body.Sent 2 2 1 frame.Bound ∷ body.Sent 3 2 1 frame.Bound ∷ []) → ⊥
 answer_twice s = let no_way : 3 ≤ 2 = s in absurd (omega (arith, no_way))
 
+-- also in a commit
+abbrev voting : Past
+voting = end_from nothing_yet (begins ∷ (event.Commit (l 65), body.Committing (l 65) ∷ body.Sent 1 1 2 frame.Vote ∷ []) ∷ [])
+
+vote_twice : SendsStep two_nodes voting (event.Deliver (Number 1))
+    (body.Got 1 ∷ body.Sent 2 2 1 frame.Voted ∷ body.Sent 3 2 1 frame.Voted ∷ []) → ⊥
+vote_twice s = let no_way : 3 ≤ 2 = s in absurd (omega (arith, no_way))
+
 -- who begins sends none
 begin_once : SendsStep two_nodes (end_from nothing_yet (begins ∷ [])) (event.Begin (l 66) 1) (body.Sent 1 1 2 frame.Bind ∷ []) → ⊥
 begin_once s = let no_way : 1 ≤ 0 = s in absurd (omega (arith, no_way))
@@ -125,6 +133,10 @@ call_once = omega arith
 answer_once : SendsStep two_nodes binding (event.Deliver (Number 1)) (body.Got 1 ∷ body.Sent 2 2 1 frame.Bound ∷ [])
 answer_once = omega arith
 
--- Of a commit nothing is said.
+-- Of a commit nothing is said, nor of an answer in one.
 commit_free : SendsStep two_nodes (end_from nothing_yet (begins ∷ [])) (event.Commit (l 65)) two_binds
 commit_free = tt
+
+voted_free : SendsStep two_nodes (end_from voting ((event.Deliver (Number 1), body.Got 1 ∷ body.Sent 2 2 1 frame.Voted ∷ []) ∷ []))
+    (event.Deliver (Number 2)) (body.Got 2 ∷ body.Sent 3 1 2 frame.Prepare ∷ body.Sent 4 1 2 frame.Prepare ∷ [])
+voted_free = tt

@@ -2,7 +2,7 @@
 -- of a quiesce by themselves (`Journals`), each quiesce that nothing cuts short (`Answered`), a run event by event (`Walked`), the
 -- stated round (`Rounds`), that a journal tells how nodes are (`Known`), and what is asked on one node (`Asking`, `Alone`): one call
 -- makes one binding at most (`Chain`), a commit none (`Commits`), and what is bound is the last of its object (`Binds`). Also how many
--- messages are sent by what is of a call (`Sends`), and how many frames by an event (`Framed`).
+-- messages are sent by what is of a call (`Sends`) or asked in a commit (`Back`), and how many frames by an event (`Framed`).
 pub mod Limits
 pub mod Ties
 pub mod Journals
@@ -16,4 +16,5 @@ pub mod Commits
 pub mod Binds
 pub mod Alone
 pub mod Sends
+pub mod Back
 pub mod Framed

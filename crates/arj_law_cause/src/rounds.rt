@@ -35,8 +35,9 @@ pub fn asked_alone_is_answered()
 {}
 
 /// In every run in form, wherever it begins and wherever disks stop, an event sends one frame at most by which an action calls or includes, or
-/// which delivers a request or an answer of a call or an include, or hands over bytes; and none by which an action begins, a frame is lost, a
-/// node crashes, a stop is armed, or an object is shown. It does nothing when it runs.
+/// which delivers a request or an answer of a call or an include, or to another node a request of a commit, an end or a question, or hands over
+/// bytes; and none by which an action begins, a frame is lost, a node crashes, a stop is armed, or an object is shown. It does nothing when it
+/// runs.
 pub fn calls_send_one_frame()
     ensures runs { RunsSendFew }
 {}

@@ -1,7 +1,7 @@
 -- How many frames an event adds to the world, and by its journal.
 use Rattle.arj_law_parts.proofs.Words
 use Words.{◌≡◌, ◌≤◌, ◌∙◌, ◌+◌, ◌-◌, ◌==◌, ◌++◌, ℕ, zero, suc, Bool, true, false, cond, List, [], ◌∷◌, length, take, refl, sym, ap, subst}
-use Words.{arith}
+use Words.{arith, ◌&&◌, ◌||◌, not, and_parts}
 use Words.{nat_lt, Option, Some, None, IfSome, length-append, Body, Event, FrameNo, Header, Kind, Label, Message, ObjectState, Uid}
 use Words.{begin_action, Did, Disk, Do, Effect, Pair, Say, Send, Stop, held_at, holder_of, worked, Handled, Parts, Took, Void, taken}
 use Words.{whole, with_coord}
@@ -36,7 +36,8 @@ use Rattle.arj_law_cause.proofs.quiesces.Sends
 use Sends.{SendsOne, count_both, count_sent, goes_one, of_call, taken_one, whole_sent}
 use Rattle.arj_law_cause.proofs.quiesces.Ties as ties
 use Rattle.arj_law_cause.proofs.quiesces.Walked as walked
-use Rattle.arj_law_cause.specs.rounds.Sends.{RunsSendFew, SendsStep, is_call_frame, is_of_call, most_sent}
+use Rattle.arj_law_cause.proofs.quiesces.Back.{SendsBack, is_back, taken_back, whole_back}
+use Rattle.arj_law_cause.specs.rounds.Sends.{RunsSendFew, SendsStep, is_answered, is_answered_frame, is_call_frame, is_of_call, most_sent}
 
 -- ---- effects as frames
 
@@ -91,56 +92,65 @@ cut_sent (suc k) how (Send to m ∷ es) d = more (count_sent (cut (suc k) how es
 abbrev Few : ℕ → Step → Type 0
 Few c s = (count_sent s.outs ≤ c) × (count_sent s.halting ≤ c)
 
-steps_frames : (c k : ℕ) (i : Input) (w : World) → ((n : Node) → Few c (step w.header n i)) →
+steps_at : (c k : ℕ) (i : Input) (w : World) → ((n : Node) → at_place k w.nodes ≡ Some n → Few c (step w.header n i)) →
     length (steps k i w).frames ≤ length w.frames + c
-steps_frames c k i w few = node (at_place k w.nodes)
+steps_at c k i w few = node (at_place k w.nodes) refl
   where
     stays : (a b : ℕ) → a ≤ a + b
     stays a b = omega arith
 
-    done : (n : Node) → length (done_step k (step w.header n i) w).frames ≤ length w.frames + c
-    done n = put_frames c k (step w.header n i).outs w (few n).0
+    done : (n : Node) → Few c (step w.header n i) → length (done_step k (step w.header n i) w).frames ≤ length w.frames + c
+    done n its = put_frames c k (step w.header n i).outs w its.0
 
-    halted : (n : Node) (j : ℕ) (a : Arm) →
+    halted : (n : Node) → Few c (step w.header n i) → (j : ℕ) (a : Arm) →
         length (halted_at k n (cut j a.how (step w.header n i).halting n.disk) (disarmed k w)).frames ≤ length w.frames + c
-    halted n j a =
+    halted n its j a =
         let q = cut j a.how (step w.header n i).halting n.disk in
         put_frames c k (halted_outs k q) w (less (count_sent (halted_outs k q)) (count_sent q.outs) (count_sent
         (step w.header n i).halting) c
-        (count_both q.outs (Say (body.Halted k) ∷ [])) (cut_sent j a.how (step w.header n i).halting n.disk) (few n).1)
+        (count_both q.outs (Say (body.Halted k) ∷ [])) (cut_sent j a.how (step w.header n i).halting n.disk) its.1)
       where
         less : (a b s c : ℕ) → a ≡ b + 0 → b ≤ s → s ≤ c → a ≤ c
         less a b s c is x y = omega (arith, is, x, y)
 
-    with_arm : (n : Node) (a : Arm) (b : Bool) → length (cond b
+    with_arm : (n : Node) → Few c (step w.header n i) → (a : Arm) (b : Bool) → length (cond b
         (done_step k (step w.header n i) (armed k (record a { works = a.works - count_works (step w.header n i).halting }) w))
         (halted_at k n (cut (a.works - 1) a.how (step w.header n i).halting n.disk) (disarmed k w))).frames ≤ length w.frames + c
-    with_arm n a true = done n
-    with_arm n a false = halted n (a.works - 1) a
+    with_arm n its a true = done n its
+    with_arm n its a false = halted n its (a.works - 1) a
 
-    arms : (n : Node) (o : Option Arm) → length (step_with k n (step w.header n i) w o).frames ≤ length w.frames + c
-    arms n None = done n
-    arms n (Some a) = with_arm n a (nat_lt (count_works (step w.header n i).halting) a.works)
+    arms : (n : Node) → Few c (step w.header n i) → (o : Option Arm) → length (step_with k n
+        (step w.header n i) w o).frames ≤ length w.frames + c
+    arms n its None = done n its
+    arms n its (Some a) = with_arm n its a (nat_lt (count_works (step w.header n i).halting) a.works)
 
-    node : (o : Option Node) → length (step_node k i w o).frames ≤ length w.frames + c
-    node None = stays (length w.frames) c
-    node (Some n) = arms n (at_number k w.arms)
+    node : (o : Option Node) → at_place k w.nodes ≡ o → length (step_node k i w o).frames ≤ length w.frames + c
+    node None there = stays (length w.frames) c
+    node (Some n) there = arms n (few n there) (at_number k w.arms)
 
-steps_header : (hd : Header) (c : ℕ) (i : Input) → ((n : Node) → Few c (step_down hd i n)) → ((n : Node) (t : Parts) →
-    Few c (step_up i n t)) →
-    (n : Node) → Few c (step hd n i)
-steps_header hd c i down up n = by (refusal hd i n)
+steps_frames : (c k : ℕ) (i : Input) (w : World) → ((n : Node) → Few c (step w.header n i)) →
+    length (steps k i w).frames ≤ length w.frames + c
+steps_frames c k i w few = steps_at c k i w (λ n there. few n)
+
+step_header : (hd : Header) (c : ℕ) (i : Input) (n : Node) → Few c (step_down hd i n) → ((t : Parts) → Few c (step_up i n t)) →
+    Few c (step hd n i)
+step_header hd c i n down up = by (refusal hd i n)
   where
     least : (a : ℕ) → 0 ≤ a
     least a = omega arith
 
     live : (o : Option Parts) → Few c (step_of hd i n o)
-    live None = down n
-    live (Some t) = up n t
+    live None = down
+    live (Some t) = up t
 
     by : (r : Option ℕ) → Few c (step_unless hd i n r)
     by (Some k) = (least c, least c)
     by None = live n.live
+
+steps_header : (hd : Header) (c : ℕ) (i : Input) → ((n : Node) → Few c (step_down hd i n)) → ((n : Node) (t : Parts) →
+    Few c (step_up i n t)) →
+    (n : Node) → Few c (step hd n i)
+steps_header hd c i down up n = step_header hd c i n (down n) (up n)
 
 -- a coordinator that sends one message of a call at most
 did_few : (n : Node) (t : Parts) (d : Did Words.Coord) (c : ℕ) → (count_sent d.outs ≤ c) × Sends.AllCalls d.outs → Few c (coord_did n t d)
@@ -241,6 +251,23 @@ frame_few hd k from m is = steps_header hd 1 (input.Frame k from (Some m)) (λ n
             let le = within (count_sent (whole n.number v outs n.disk).outs) (count_sent outs)
             (whole_sent n.number v outs n.disk its.1) its.0 in (le, le)
 
+back_few : (hd : Header) (k from : ℕ) (m : Message) → is_back m ≡ true → (n : Node) → (from == n.number) ≡ false →
+    Few 1 (step hd n (input.Frame k from (Some m)))
+back_few hd k from m is n apart = step_header hd 1 (input.Frame k from (Some m)) n (omega arith, omega arith) taken_few
+  where
+    taken_few : (t : Parts) → Few 1 (step_up (input.Frame k from (Some m)) n t)
+    taken_few t = by (taken n.number n.disk t from m) (taken_back from n.number n.disk t m is)
+      where
+        one : (a b : ℕ) → a ≡ b + 0 → b ≤ 1 → a ≤ 1
+        one a b is low = omega (arith, is, low)
+
+        by : (r : Handled) → SendsBack from (outs_of r) → Few 1 (handled_step k n r)
+        by (Void outs) its = (
+          one (count_sent (outs ++ Say (body.Void k) ∷ [])) (count_sent outs) (count_both outs (Say (body.Void k) ∷ [])) its.0,
+          its.0,
+        )
+        by (Took v outs) its = let le = whole_back n.number from apart v outs n.disk its in (le, le)
+
 -- ---- events
 
 abbrev Adds : ℕ → World → World → Type 0
@@ -333,9 +360,55 @@ deliver_frames k w = by (at_place k w.frames)
     by None is = absurd (cc is)
     by (Some f) is = carried f f.message is
 
+deliver_back : (k : ℕ) (w : World) → ((n : ℕ) (x : Node) → at_place n w.nodes ≡ Some x → x.number ≡ n) →
+    frame_test (λ from to what. is_answered what && not (from == to)) (at_place k w.frames) ≡ true → Adds 1 w (deliver k w)
+deliver_back k w numbers = by (at_place k w.frames)
+  where
+    kind_of : (m : Message) → is_answered (frame_kind m) ≡ true → is_back m ≡ true
+    kind_of (message.Bind m) is = absurd (cc is)
+    kind_of (message.Bound m) is = absurd (cc is)
+    kind_of (message.Load m) is = absurd (cc is)
+    kind_of (message.Loaded m) is = absurd (cc is)
+    kind_of (message.Activate m) is = absurd (cc is)
+    kind_of (message.Activated m) is = absurd (cc is)
+    kind_of (message.RecordMsg m) is = absurd (cc is)
+    kind_of (message.Recorded m) is = absurd (cc is)
+    kind_of (message.Invoke m) is = absurd (cc is)
+    kind_of (message.Invoked m) is = absurd (cc is)
+    kind_of (message.Vote m) is = refl
+    kind_of (message.Voted m) is = absurd (cc is)
+    kind_of (message.Prepare m) is = refl
+    kind_of (message.Prepared m) is = absurd (cc is)
+    kind_of (message.Confirm m) is = refl
+    kind_of (message.Confirmed m) is = absurd (cc is)
+    kind_of (message.Told m) is = refl
+    kind_of (message.Acked m) is = absurd (cc is)
+    kind_of (message.Query m) is = refl
+    kind_of (message.Hello m) is = absurd (cc is)
+
+    differ : (b : Bool) → not b ≡ true → b ≡ false
+    differ true is = absurd (cc is)
+    differ false is = refl
+
+    carried : (f : Frame) (o : Option Message) → is_answered (carried_by o) ≡ true → (f.from == f.to) ≡ false →
+        Adds 1 w (steps f.to (input.Frame k f.from o) (change_frame k as_delivered f w))
+    carried f None is apart = absurd (cc is)
+    carried f (Some m) is apart = subst (λ j. length (steps f.to (input.Frame k f.from (Some m))
+        (change_frame k as_delivered f w)).frames ≤ j + 1)
+        (set_long k (as_delivered f) w.frames)
+        (steps_at 1 f.to (input.Frame k f.from (Some m)) (change_frame k as_delivered f w) (λ n there. back_few w.header k f.from m
+        (kind_of m is) n (ap (λ x. f.from == x) (numbers f.to n there) ∙ apart)))
+
+    by : (o : Option Frame) → frame_test (λ from to what. is_answered what && not (from == to)) o ≡ true → Adds 1 w (deliver_frame k w o)
+    by None is = absurd (cc is)
+    by (Some f) is =
+        let p = and_parts (is_answered (carried_by f.message)) (not (f.from == f.to)) is in
+        carried f f.message p.0 (differ (f.from == f.to) p.1)
+
 -- of each event for which there is a bound
 module _ (ls : List Words.Line) (w : World) (last : last_frame ls ≡ length w.frames)
-    (frames : (test : ℕ → ℕ → FrameKind → Bool) (k : ℕ) → frame_is test ls k ≡ frame_test test (at_place k w.frames)) where
+    (frames : (test : ℕ → ℕ → FrameKind → Bool) (k : ℕ) → frame_is test ls k ≡ frame_test test (at_place k w.frames))
+    (numbers : (n : ℕ) (x : Node) → at_place n w.nodes ≡ Some x → x.number ≡ n) where
   abbrev Bound : Event → Type 0
   Bound e = (a : Arm) → IfSome (most_sent ls e) (λ k. Adds k w (happens e a w))
 
@@ -346,16 +419,19 @@ module _ (ls : List Words.Line) (w : World) (last : last_frame ls ≡ length w.f
   number_is (frame_no.Number j) = refl
   number_is frame_no.Last = last
 
-  delivered : (k : FrameNo) (b : Bool) → is_call_frame ls (model.frame_no ls k) ≡ b →
-      IfSome (cond b (Some 1) None) (λ j. Adds j w (deliver (frame_number k w) w))
-  delivered k true is = deliver_frames (frame_number k w) w
+  delivered : (k : FrameNo) (b c : Bool) → is_call_frame ls (model.frame_no ls k) ≡ b → is_answered_frame ls (model.frame_no ls k) ≡ c →
+      IfSome (cond (b || c) (Some 1) None) (λ j. Adds j w (deliver (frame_number k w) w))
+  delivered k true c is back = deliver_frames (frame_number k w) w
       (sym (frames (λ from to what. is_of_call what) (frame_number k w)) ∙ ap (is_call_frame ls) (sym (number_is k)) ∙ is)
-  delivered k false is = tt
+  delivered k false true is back = deliver_back (frame_number k w) w numbers
+      (sym (frames (λ from to what. is_answered what && not (from == to)) (frame_number k w))
+      ∙ ap (is_answered_frame ls) (sym (number_is k)) ∙ back)
+  delivered k false false is back = tt
 
   pub bounded : (e : Event) → Bound e
   bounded (event.Call l x op) a = steps_frames 1 (node_of l w) (input.Call l x op) w (call_few w.header l x op)
   bounded (event.Include l x n) a = steps_frames 1 (node_of l w) (input.Include l x n) w (include_few w.header l x n)
-  bounded (event.Deliver k) a = delivered k (is_call_frame ls (model.frame_no ls k)) refl
+  bounded (event.Deliver k) a = delivered k (is_call_frame ls (model.frame_no ls k)) (is_answered_frame ls (model.frame_no ls k)) refl refl
   bounded (event.Junk n bytes) a = junk_frames n w
   bounded (event.Commit l) a = tt
   bounded (event.Abort l) a = tt
@@ -386,7 +462,8 @@ if_all (Some k) P each = each k
 
 -- an event that is refused, or not run, sends none
 module _ (ls : List Words.Line) (w : World) (last : last_frame ls ≡ length w.frames)
-    (frames : (test : ℕ → ℕ → FrameKind → Bool) (k : ℕ) → frame_is test ls k ≡ frame_test test (at_place k w.frames)) (m : Move) where
+    (frames : (test : ℕ → ℕ → FrameKind → Bool) (k : ℕ) → frame_is test ls k ≡ frame_test test (at_place k w.frames))
+    (numbers : (n : ℕ) (x : Node) → at_place n w.nodes ≡ Some x → x.number ≡ n) (m : Move) where
   abbrev In : World → Type 0
   In v = IfSome (most_sent ls (event_of m)) (λ k. Adds k w v)
 
@@ -402,8 +479,8 @@ module _ (ls : List Words.Line) (w : World) (last : last_frame ls ≡ length w.f
 
   fits : (b : Bool) → let v = happens (event_of m) (let a = m.asked in a.arm) (counted (record w { arms = m.falls })) in
       In (record (cond b (world_says (body.Limit Words.words.which.Frames ∷ []) (record v { over = true })) v) { arms = [] })
-  fits true = bounded ls (counted (record w { arms = m.falls })) last frames (event_of m) (let a = m.asked in a.arm)
-  fits false = bounded ls (counted (record w { arms = m.falls })) last frames (event_of m) (let a = m.asked in a.arm)
+  fits true = bounded ls (counted (record w { arms = m.falls })) last frames numbers (event_of m) (let a = m.asked in a.arm)
+  fits false = bounded ls (counted (record w { arms = m.falls })) last frames numbers (event_of m) (let a = m.asked in a.arm)
 
   accepted : (lacks : Bool) → In (record (cond lacks (no_labels (record w { arms = m.falls }))
       (limited (happens (event_of m) (let a = m.asked in a.arm) (counted (record w { arms = m.falls }))))) { arms = [] })
@@ -433,12 +510,15 @@ module _ (hd : Header) (form : HeaderInForm hd) (front : Run hd) (m : Move) (p :
       (let v = moved m (world_by hd front) in v.nodes)
   behind_tells = let t = ties.told hd form (next p (event_of m) bodies) (moved m (world_by hd front)) after.all in t.tells
 
+  numbers : (n : ℕ) (x : Node) → at_place n (let w = world_by hd front in w.nodes) ≡ Some x → x.number ≡ n
+  numbers n x there = let t = ties.told hd form p (world_by hd front) s.all in (t.placed.nodes n x there).1
+
   pub sends_few : SendsStep hd p (event_of m) bodies
   sends_few = if_less (most_sent p.lines (event_of m)) (λ k. Adds k (world_by hd front) (moved m (world_by hd front)))
       (λ k. last_frame (let q = next p (event_of m) bodies in q.lines) ≤ last_frame p.lines + k)
       (λ k le. subst (λ n. n ≤ last_frame p.lines + k) (sym behind_tells.last)
       (subst (λ n. length (let v = moved m (world_by hd front) in v.frames) ≤ n + k) (sym before_tells.last) le))
-      (moved_few p.lines (world_by hd front) before_tells.last before_tells.frames m)
+      (moved_few p.lines (world_by hd front) before_tells.last before_tells.frames numbers m)
 
 -- so it is of each event of a run
 pub runs_send_few : RunsSendFew

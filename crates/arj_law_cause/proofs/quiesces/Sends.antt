@@ -79,10 +79,10 @@ unsent own never (Send to m ∷ es) all =
 unsent own never (Say b ∷ es) all = unsent own never es (and_parts (own (Say b)) (list_all own es) all).1
 unsent own never (Do w ∷ es) all = unsent own never es (and_parts (own (Do w)) (list_all own es) all).1
 
-server_none : (n : ℕ) (es : List Effect) → AreAll (is_server_effect n) es → (count_sent es ≡ 0) × AllCalls es
+pub server_none : (n : ℕ) (es : List Effect) → AreAll (is_server_effect n) es → (count_sent es ≡ 0) × AllCalls es
 server_none n es all = unsent (is_server_effect n) (λ to m. refl) es all
 
-naming_none : (es : List Effect) → AreAll is_naming_effect es → (count_sent es ≡ 0) × AllCalls es
+pub naming_none : (es : List Effect) → AreAll is_naming_effect es → (count_sent es ≡ 0) × AllCalls es
 naming_none es all = unsent is_naming_effect (λ to m. refl) es all
 
 nothing_sent : SendsOne []

@@ -1,5 +1,5 @@
--- How many frames an event sends at most that asks no more of actions than a call or an include.
-use Rattle.std.specs.Prelude.{◌≤◌, ◌+◌, ℕ, List, Bool, true, false, if◌then◌else◌, IfSome, Option, Some, None}
+-- How many frames an event sends at most that asks no more of actions than a call or an include, or delivers what is only answered.
+use Rattle.std.specs.Prelude.{◌≤◌, ◌+◌, ◌==◌, ◌&&◌, ◌||◌, not, ℕ, List, Bool, true, false, if◌then◌else◌, IfSome, Option, Some, None}
 use Rattle.arj_journal.specs.declared.body.Body.{Body}
 use Rattle.arj_journal.specs.declared.body.FrameKind.{FrameKind}
 use Rattle.arj_journal.specs.declared.body.FrameKind.TheVariants as frame
@@ -32,14 +32,28 @@ is_of_call _ = false
 abbrev pub is_call_frame : List Line → ℕ → Bool
 is_call_frame lines k = frame_is (λ from to what. is_of_call what) lines k
 
+-- a request of a commit, what tells an end, or a question about one: who takes it does no more than answer
+abbrev pub is_answered : FrameKind → Bool
+is_answered frame.Vote = true
+is_answered frame.Prepare = true
+is_answered frame.Confirm = true
+is_answered frame.Told = true
+is_answered frame.Query = true
+is_answered _ = false
+
+-- the frame of this number carries one to another node
+abbrev pub is_answered_frame : List Line → ℕ → Bool
+is_answered_frame lines k = frame_is (λ from to what. is_answered what && not (from == to)) lines k
+
 -- How many frames the event sends at most, where these lines stand before it: one where it calls or includes, delivers a request or an
--- answer
--- of a call or an include, or hands over bytes; of those by which an action commits, aborts or gives up, of a tick, a restart, a settle, a
--- quiesce and of other deliveries nothing is said; and none where it is any other.
+-- answer of a call or an include, or to another node a request of a commit, an end or a question, or hands over bytes; of those by which an
+-- action commits, aborts or gives up, of a tick, a restart, a settle, a quiesce and of other deliveries nothing is said; and none where it
+-- is any other.
 abbrev pub most_sent : List Line → Event → Option ℕ
 most_sent lines (event.Call l x op) = Some 1
 most_sent lines (event.Include l x n) = Some 1
-most_sent lines (event.Deliver k) = if is_call_frame lines (frame_no lines k) then Some 1 else None
+most_sent lines (event.Deliver k) =
+    if is_call_frame lines (frame_no lines k) || is_answered_frame lines (frame_no lines k) then Some 1 else None
 most_sent lines (event.Junk n bytes) = Some 1
 most_sent lines (event.Commit l) = None
 most_sent lines (event.Abort l) = None

@@ -21,7 +21,8 @@ pub record TellsQuiesces (hd : Header) (st : Start) (es : List Event) (journal :
   pub rounds : EndsRounds hd st es journal
   -- on one node nobody waits for a quiesce: what is asked is answered in its own event
   pub alone : Runs (AloneStep hd) st es journal
-  -- a call or an include sends one frame at most, and so does a delivery of a request or an answer of one
+  -- a call or an include sends one frame at most, and so does a delivery of a request or an answer of one, of a request of a commit, of
+  -- an end and of a question
   pub sends : Runs (SendsStep hd) st es journal
 
 -- All of this, and what each event writes.
