@@ -31,6 +31,7 @@ use Rattle.arj_model.specs.Caused.{has_cause}
 use Rattle.arj_model.specs.Follows.{Runs}
 use Rattle.arj_model.specs.Past.{Along, Past, block, next}
 use Rattle.arj_promise.specs.Runs.{IsInForm, Run, journal_by}
+use Rattle.arj_law_cause.proofs.votes.Lines as lines
 use Rattle.arj_law_cause.specs.rows.Early.{IsEarly}
 use Rattle.arj_law_cause.proofs.confirm.{Joined.early_before, Labels.runs_have_few, Plain.Ends, Plain.Heard, Plain.Plain}
 use Rattle.arj_law_cause.proofs.confirm.{Entries.BeganSo, Entries.began_so, Outdated.old_row, Plain.EndsLate, Plain.Rests}
@@ -56,18 +57,7 @@ module _ (hd : Header) (st : Start) where
 
   -- each of these lines fits those before it
   abbrev pub AreFit : List Line → List Line → Type 0
-  AreFit before [] = ⊤
-  AreFit before (l ∷ ls) = Fits hd st before l.body × AreFit (before ++ l ∷ []) ls
-
-  fit_both : (before xs ys : List Line) → AreFit before xs → AreFit (before ++ xs) ys → AreFit before (xs ++ ys)
-  fit_both before [] ys a b = subst (λ ls. AreFit ls ys) (append-nil before) b
-  fit_both before (x ∷ xs) ys a b =
-      (a.0, fit_both (before ++ x ∷ []) xs ys a.1 (subst (λ ls. AreFit ls ys) (sym (append_assoc before (x ∷ []) xs)) b))
-
-  fit_at : (before xs : List Line) (line : Line) (ys : List Line) → AreFit before (xs ++ line ∷ ys) → Fits hd st (before ++ xs) line.body
-  fit_at before [] line ys a = subst (λ ls. Fits hd st ls line.body) (sym (append-nil before)) a.0
-  fit_at before (x ∷ xs) line ys a =
-      subst (λ ls. Fits hd st ls line.body) (append_assoc before (x ∷ []) xs) (fit_at (before ++ x ∷ []) xs line ys a.1)
+  AreFit = lines.AreFit (Fits hd st)
 
   plain_fits : (lines : List Line) (b : Body) → plain b ≡ true → Fits hd st lines b
   plain_fits lines (body.Aborted l (cause.Listed x s)) is = absurd (cc is)
@@ -92,10 +82,10 @@ module _ (hd : Header) (st : Start) where
   LinesFit M = AreFit [] M.seen.lines
 
   one_more : (b : Body) (M : Moment) → Fits hd st M.seen.lines b → LinesFit M → LinesFit (said (b ∷ []) M)
-  one_more b M fit h = fit_both [] M.seen.lines (numbered M.past.number (b ∷ [])) h (fit, tt)
+  one_more b M fit h = lines.fit_both (Fits hd st) [] M.seen.lines (numbered M.past.number (b ∷ [])) h (fit, tt)
 
   mute : (bs : List Body) (M : Moment) → list_all plain bs ≡ true → LinesFit M → LinesFit (said bs M)
-  mute bs M all h = fit_both [] M.seen.lines (numbered M.past.number bs) h (all_fit M.seen.lines M.past.number bs all)
+  mute bs M all h = lines.fit_both (Fits hd st) [] M.seen.lines (numbered M.past.number bs) h (all_fit M.seen.lines M.past.number bs all)
 
   sent_fit : (p : Post) (M : Moment) → LinesFit M → LinesFit (sent p M)
   sent_fit p M h = by (p.to == p.from) (fits M)
@@ -343,7 +333,7 @@ module _ (hd : Header) (st : Start) (test of : Here → Body → Bool) (to : (h 
 each_line : (hd : Header) (r : Run hd) → IsInForm hd r → (before : List Line) (line : Line) (behind : List Line) →
     journal_by hd r ≡ before ++ line ∷ behind → IsSo hd r.start before line.body
 each_line hd r form before line behind is = (
-  fit_at hd r.start [] before line behind (subst (AreFit hd r.start []) is (lines_fit hd r.start form.header r refl)),
+  lines.fit_at (Fits hd r.start) [] before line behind (subst (AreFit hd r.start []) is (lines_fit hd r.start form.header r refl)),
   early_before before (line ∷ behind) (subst IsEarly is (runs_early hd r form)),
 )
 
