@@ -3,7 +3,7 @@
 use Rattle.arj_law_parts.proofs.Words
 use Words.{⊤, ◌≡◌, ◌⊎◌, ◌∙◌, ◌+◌, ◌==◌, ◌++◌, ◌&&◌, ◌||◌, not, ℕ, Bool, true, false, cond, if◌then◌else◌, List, [], ◌∷◌, Option, Some}
 use Words.{None, refl, sym}
-use Words.{ap, subst, inl, inr, append-nil, append_assoc, AllByRecursion, and_parts, list_all, Asked, Body, Event, Header, Kind, Label}
+use Words.{ap, subst, inl, inr, append_assoc, AllByRecursion, and_parts, list_all, Asked, Body, Event, Header, Kind, Label}
 use Words.{Line, Message, Reply}
 use Words.{answers, Disk, Do, Effect, Say, Send, worked, Parts, Took, handle, is_meant, with_coord, Input, Node, acts as does, again_all}
 use Words.{begin_action}
