@@ -1,6 +1,7 @@
 -- Shows behind a start that isn't fresh, ends that nodes are told of, and nodes that are given up: which lines of a kind don't pass the test of their row.
 use Rattle.std.specs.Prelude.{◌≡◌, ◌+◌, ◌++◌, ℕ, Bool, List, [], ◌∷◌, length, refl, if◌then◌else◌}
 use Rattle.arj_base.specs.declared.mode.End.TheVariants.{Abort, Commit}
+use Rattle.arj_base.specs.declared.mode.Mode.TheVariants.{Exclude}
 use Rattle.arj_class.specs.declared.value.Value.TheVariants as value
 use Rattle.arj_journal.specs.declared.body.Body.{Body}
 use Rattle.arj_journal.specs.declared.body.Body.TheVariants as body
@@ -12,10 +13,11 @@ use Rattle.arj_model.specs.CauseSpans.{Here, behind, here_at}
 use Rattle.arj_model.specs.Caused.{has_cause}
 use Rattle.arj_model.specs.Past.{Past, at_start, next}
 use Rattle.arj_start.specs.Start.{Start, fresh}
-use Rattle.arj_law_cause.specs.kinds.Kinds.{is_abort_done, is_copy_shown, is_entry_shown, is_node_given_up, is_told}
+use Rattle.arj_law_cause.specs.kinds.Kinds.{is_abort_done, is_copy_shown, is_entry_shown, is_granted_entry, is_node_given_up, is_told}
 use Rattle.arj_law_cause.specs.kinds.Rows.{tested}
+use Rattle.arj_law_cause.specs.kinds.Tests.{is_granted_so}
 use Rattle.arj_cause_tests.proofs.Words.{Run, Wrote, after, instead, l, lacking, nodes, object_line, run, u, without}
-use Rattle.arj_cause_tests.proofs.Worked.{conflict, exclusion, lost_lock, nested_abort, no_store_left, rebinding}
+use Rattle.arj_cause_tests.proofs.Worked.{conflict, exclusion, lost_lock, naming_stopped, nested_abort, no_store_left, rebinding}
 use Rattle.arj_cause_tests.proofs.Rarer.{conflict_pending}
 
 -- the places of those lines of an event that don't pass a test, from 1
@@ -47,6 +49,10 @@ tolds = failing has_cause is_told fresh
 -- nodes that giveups name without their cause
 abbrev givens : Run → List ℕ
 givens = failing has_cause is_node_given_up fresh
+
+-- locks on entries that aren't granted so
+abbrev locked : Run → List ℕ
+locked = failing is_granted_so is_granted_entry fresh
 
 -- aborts that are done without their cause
 abbrev undone : Run → List ℕ
@@ -168,6 +174,21 @@ given_falling = refl
 -- its own node needs no frame
 given_own : givens (instead 14 (body.GaveUp (l 78) 1) rebinding) ≡ []
 given_own = refl
+
+-- ---- locks that naming gives back
+
+locked_so : locked naming_stopped ≡ []
+locked_so = refl
+
+-- twice, elsewhere, and against who has it
+back_twice : locked (after 49 (body.Granted 1 (u 2 1 1) (u 0 1 1) Exclude ∷ []) naming_stopped) ≡ 50 ∷ []
+back_twice = refl
+
+back_elsewhere : locked (instead 49 (body.Granted 2 (u 2 1 1) (u 0 1 1) Exclude) naming_stopped) ≡ 49 ∷ []
+back_elsewhere = refl
+
+back_against : locked (after 49 (body.Granted 1 (u 3 1 1) (u 0 1 1) Exclude ∷ []) naming_stopped) ≡ 50 ∷ []
+back_against = refl
 
 undone_so : undone nested_abort ++ (undone conflict ++ (undone exclusion ++ undone rebinding)) ≡ []
 undone_so = refl

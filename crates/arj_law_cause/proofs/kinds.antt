@@ -48,6 +48,7 @@ pub mod Others
 pub mod Granted
 pub mod Tops
 pub mod Checks
+pub mod Back
 pub mod Entries
 pub mod LostCommits
 pub mod Late

@@ -128,7 +128,8 @@ pub fn preparations_have_causes()
 
 /// In every such run, but in a restart, a lock on an entry is granted by naming, to a top that has no such lock by the table before the line,
 /// and whose path meets none. One for an exclusion is so to a top that excluded a store of the object; for any other a call or an include of
-/// the object, of the top or of an action below it, was accepted. It does nothing when it runs.
+/// the object, of the top or of an action below it, was accepted. In a restart naming gives a lock back to who has no such lock by the table
+/// before the line, and meets none there. It does nothing when it runs.
 pub fn locks_on_entries_are_free()
     ensures locked { TestHolds is_granted_so is_granted_entry }
 {}

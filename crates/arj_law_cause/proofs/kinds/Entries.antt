@@ -1,18 +1,17 @@
--- The row of locks on entries, in an event that is no restart: naming grants one to a top, which has no such lock, and whose path meets
--- none; for what was asked of it or below it, or for stores that it excluded.
+-- The row of locks on entries: a restart gives them back (`Back`); in an event that is none naming grants one to a top, which has no such
+-- lock, and whose path meets none; for what was asked of it or below it, or for stores that it excluded.
 use Rattle.arj_law_parts.proofs.Words
-use Words.{⊤, ◌≡◌, ◌∙◌, ◌==◌, ◌&&◌, ◌||◌, ◌++◌, ◌+◌, not, ℕ, zero, suc, Bool, true, false, cond, filter, find, if◌then◌else◌, List, []}
+use Words.{⊤, ◌≡◌, ◌∙◌, ◌==◌, ◌&&◌, ◌||◌, ◌++◌, ◌+◌, not, ℕ, Bool, true, false, cond, filter, find, if◌then◌else◌, List, []}
 use Words.{◌∷◌, length}
-use Words.{inl, inr, ⊎_elim, ◌⊎◌, actor, grant_row, in_filter, in_map, put_number, rows_by, stronger, Post, take, Option, Some, None}
-use Words.{refl, sym, ap, subst, and_parts, eqb-true, eq-eqb, list_all, list_any, nat_le, option_map, In, in_from, uid_eq, uid_is}
-use Words.{uid_same, entry, mode_code, is_row_of, is_against, first_conflict, is_serial, last_uid, uids_of, top_of, top_path, tops_of}
+use Words.{inl, inr, ⊎_elim, ◌⊎◌, actor, grant_row, in_filter, in_map, put_number, rows_by, Post, Option, Some, None}
+use Words.{refl, sym, ap, subst, and_parts, eqb-true, eq-eqb, list_any, nat_le, option_map, In, in_from, uid_eq}
+use Words.{uid_same, entry, mode_code, is_row_of, is_against, first_conflict, is_serial, last_uid, top_of, top_path, tops_of}
 use Words.{object}
 use Words.{Ask, Binding, Body, BoundReply, Entry, Event, Head, Header, Line, Message, Mode, ObjectState, Path, Reply, Row, Start, Uid, asks}
 use Words.{asked_by, response, Disk, Do, Effect, Pair, Prep, Say, Send, Served, void, Counted, Live, Made, Named, bind_call, bind_made}
 use Words.{bind_named, conflict_on, include_asked, is_granted, is_over, listed_entry, live_above, live_asked, lock_lines, made_above}
 use Words.{make_asked}
-use Words.{at_number, at_uid, either, is_on, is_prepared, on_counted, prepare_answer, reply, confirm, Naming, Did, Handled, Parts, Took}
-use Words.{Void}
+use Words.{at_number, at_uid, either, is_on, is_prepared, on_counted, prepare_answer, reply, confirm, Naming, Parts, Took}
 use Words.{handle, handle_ask, if_naming, sends_answer, serve, served, with_naming, AreAll, is_coord_effect, is_coord_line}
 use Words.{is_server_effect}
 use Words.{is_server_line, invoke_own, acts as does, acts_own, again_all, again_own, all_both, begin_action, holders, map, numbered}
@@ -20,7 +19,6 @@ use Words.{parent_of}
 use Words.{query_about, restart_outs, tick_outs, tolds_again, tolds_again_own, Seen, World, name}
 use Words.ask
 use Words.body
-use Words.event
 use Words.input
 use Words.list
 use Words.mode
@@ -44,7 +42,7 @@ use Rattle.arj_law_runs.specs.journal.Right.{AreRight}
 use Rattle.arj_law_serial.proofs.Terms
 use Terms.{Act, AreAlike, acts, acts_more, named_locks, path, path_by, rows_on, uids, up_of, act_of}
 use Terms.{holders_in}
-use Rattle.arj_law_serial.proofs.holding.{Events.IsShown, Lines.own_line}
+use Rattle.arj_law_serial.proofs.holding.{Events.IsShown, Lines.own_line, Sorts.is_free}
 use Rattle.arj_law_serial.proofs.holding.{Running.Showing, Running.alike_of, Writes.none_starts}
 use Rattle.arj_law_serial.proofs.holding.Says as saying
 use Rattle.arj_law_serial.proofs.order.Paths.{found}
@@ -73,6 +71,8 @@ use Rattle.arj_law_cause.proofs.bindings.Counted.{IsCounted, KnowsNames, names_k
 use Rattle.arj_law_cause.proofs.bindings.Every.{keeps_both, knows_with}
 use Rattle.arj_law_cause.proofs.bindings.Tabled as tabled
 use Rattle.arj_law_cause.proofs.kinds.Anew.{IsAnew}
+use Rattle.arj_law_cause.proofs.kinds.Back.{restart_well}
+use Rattle.arj_law_cause.proofs.kinds.Regained.{disk_entries}
 use Rattle.arj_law_cause.proofs.kinds.Asking.{AskSo, AsksAreSo, Excludes, Stood, asking_keep, leaves_later}
 use Rattle.arj_law_cause.proofs.kinds.Checks.{asked_granted, either_none, none_each, none_mapped, some_of}
 use Rattle.arj_law_cause.proofs.kinds.Committed.{act_found}
@@ -94,7 +94,7 @@ use Rattle.arj_law_cause.proofs.rows.Taking.{AskedPaths}
 use Rattle.arj_law_cause.proofs.waits.waiting.Lists.{any_in}
 use Rattle.arj_law_cause.specs.kinds.Kinds.{is_granted_entry}
 use Rattle.arj_law_cause.specs.kinds.Rows.{TestHolds, TestedStep, tested}
-use Rattle.arj_law_cause.specs.kinds.Tests.{is_granted_so}
+use Rattle.arj_law_cause.specs.kinds.Tests.{is_given_back, is_granted_so}
 
 -- ---- lines
 
@@ -190,12 +190,8 @@ module _ (hd : Header) (st : Start) (q : Past) (e : Event) (w : World) (shown : 
     line_passes : (m : Mode) → entry_asked (at ms) 1 t.top x m ≡ true → first_conflict (top_path p) (entry x) m rows ≡ None →
         is_granted (entry x) (last_uid (top_path p)) m rows ≡ false →
         tested passes (λ g. of) (at ms) (body.Granted 1 (last_uid (top_path p)) (entry x) m) ≡ true
-    line_passes m asked free new = (λ i. is_restart e || caused i) ∙ either_so (is_restart e)
+    line_passes m asked free new = λ i. if off i then is_given_back (at ms) 1 (last_uid (top_path p)) (entry x) m else caused i
       where
-        either_so : (b : Bool) → (b || true) ≡ true
-        either_so true = refl
-        either_so false = refl
-
         u : Uid
         u = last_uid (top_path p)
 
@@ -207,7 +203,8 @@ module _ (hd : Header) (st : Start) (q : Past) (e : Event) (w : World) (shown : 
             (and_parts (is_row_of (entry x) u r) (nat_le (mode_code m) (mode_code r.mode)) is).0).0
 
         raises : not (has_lock 1 u (entry x) m ms) ≡ true
-        raises = ap not (any_in_some strong (λ (r : Row). uid_eq r.object (entry x)) wider (table 1 ms) ∙ ap (list_any strong) table_is ∙ new)
+        raises = ap not (any_in_some strong (λ (r : Row). uid_eq r.object (entry x)) wider (table 1 ms) ∙ ap (list_any strong) table_is ∙
+            new)
 
         asker : asking_path (at ms) t.top (entry x) ≡ top_path p
         asker = (λ i. if off i then t.top.uid ∷ [] else top_uids (path (same i) (let a = t.top in a.label))) ∙ t.its_path
@@ -219,7 +216,8 @@ module _ (hd : Header) (st : Start) (q : Past) (e : Event) (w : World) (shown : 
             ∙ ap (find (is_against (top_path p) (entry x) m)) table_is ∙ free)
 
         caused : granted_caused (at ms) 1 u (entry x) m ≡ true
-        caused = ap (holds_in (λ a. not (has_lock 1 u (entry x) m ms) && (is_none (first_conflict (asking_path (at ms) a (entry x)) (entry x) m
+        caused = ap (holds_in (λ a. not (has_lock 1 u (entry x) m ms) && (is_none (first_conflict (asking_path (at ms) a (entry x)) (entry
+            x) m
             (table 1 ms)) && entry_asked (at ms) 1 a x m)))
             (ap (find (λ (a : Act). uid_eq a.uid u)) same
             ∙ act_found (acts ls) (let s = its_sound ls right in s.distinct) t.top t.there u t.uid)
@@ -254,7 +252,8 @@ module _ (hd : Header) (st : Start) (q : Past) (e : Event) (w : World) (shown : 
             Well (cond b [] (Say (body.Granted 1 (last_uid (top_path p)) (entry x) m) ∷ []) ++ fs) ls
         by true on = others_well fs ls all
         by false new = (
-          line_passes off p ls right t ls refl x rows table_is m (asked_use m plain) (ap (first_conflict (top_path p) (entry x) m) (sym same) ∙ free)
+          line_passes off p ls right t ls refl x rows table_is m (asked_use m plain) (ap (first_conflict (top_path p) (entry x) m) (sym
+              same) ∙ free)
               (ap (is_granted (entry x) (last_uid (top_path p)) m) (sym same) ∙ new),
           others_well fs (ls ++ numbered (q.count + 1) (body.Granted 1 (last_uid (top_path p)) (entry x) m ∷ [])) all,
         )
@@ -326,7 +325,8 @@ module _ (hd : Header) (st : Start) (q : Past) (e : Event) (w : World) (shown : 
 
         has : has_some (leaves_of ms (let a = t.top in a.id) x) ≡ true
         has = some_of (leaves_of ms (let a = t.top in a.id) x) l.0
-            (ap (λ zs. is_among (leaves_of zs (let a = t.top in a.id) x) l.0) b.are ∙ leaves_later ls b.more (let a = t.top in a.id) x l.0 l.1)
+            (ap (λ zs. is_among (leaves_of zs (let a = t.top in a.id) x) l.0) b.are ∙ leaves_later ls b.more (let a = t.top in a.id) x l.0
+            l.1)
 
     module _ (x : ℕ) (n : Naming) (f : Named) (found : at_number x n.objects ≡ Some f) (ms : List Line) (b : Behind n ms) where
       abbrev with_lock : Naming
@@ -380,12 +380,14 @@ module _ (hd : Header) (st : Start) (q : Past) (e : Event) (w : World) (shown : 
           rows : (y : ℕ) → rows_on (entry y) (table 1 (ms ++ numbered (q.count + 1) (granted x ∷ []))) ≡ naming_rows y with_lock
           rows y = own_line 1 part.Naming (entry y) refl (q.count + 1) (granted x) ms
               ∙ ⊎_elim {C = rows_by hs 1 part.Naming (entry y) (granted x) (rows_on (entry y) (table 1 ms)) ≡ naming_rows y with_lock}
-              (λ same. subst (λ z. rows_by hs 1 part.Naming (entry z) (granted x) (rows_on (entry z) (table 1 ms)) ≡ naming_rows z with_lock) same
+              (λ same. subst (λ z. rows_by hs 1 part.Naming (entry z) (granted x) (rows_on (entry z) (table 1 ms)) ≡ naming_rows z
+              with_lock) same
               (ap (rows_by hs 1 part.Naming (entry x) (granted x)) (b.rows x ∙ ap rows_in_named found)
               ∙ ap (λ c. rows_after hs 1 part.Naming (entry x) (cond c [] (Say (granted x) ∷ [])) f.rows) (sym new)
               ∙ asked_after hs 1 part.Naming (entry x) (top_path p) (tops_of p) mode.Exclude f.rows its
               ∙ sym (ap rows_in_named (put_same x (locked x p mode.Exclude f) n.objects))))
-              (λ apart. ap (λ c. rows_after hs 1 part.Naming (entry y) (cond c [] (Say (granted x) ∷ [])) (rows_on (entry y) (table 1 ms))) (sym new)
+              (λ apart. ap (λ c. rows_after hs 1 part.Naming (entry y) (cond c [] (Say (granted x) ∷ [])) (rows_on (entry y) (table 1
+              ms))) (sym new)
               ∙ asked_elsewhere hs 1 part.Naming (entry x) (entry y) (top_path p) (tops_of p) mode.Exclude f.rows
               (rows_on (entry y) (table 1 ms)) apart.1
               ∙ b.rows y ∙ sym (ap rows_in_named (put_other x y (locked x p mode.Exclude f) n.objects apart.0)))
@@ -394,7 +396,8 @@ module _ (hd : Header) (st : Start) (q : Past) (e : Event) (w : World) (shown : 
     excludes_well : (fs : List Effect) → Others fs → (xs : List ℕ) (n : Naming) (ms : List Line) → Behind n ms →
         ((x : ℕ) → In x xs → IsFree x (at_number x n.objects) × IsLeft x) → Well ((lock_all xs p n).outs ++ fs) ms
     excludes_well fs rest [] n ms b good = others_well fs ms rest
-    excludes_well fs rest (x ∷ xs) n ms b good = subst (λ es. Well es ms) (sym (Words.append_assoc (lock_in x p n (at_number x n.objects)).outs
+    excludes_well fs rest (x ∷ xs) n ms b good = subst (λ es. Well es ms) (sym (Words.append_assoc (lock_in x p n (at_number x
+        n.objects)).outs
         (lock_all xs p (lock_in x p n (at_number x n.objects)).part).outs fs))
         (by (at_number x n.objects) refl (λ v zs c every. excludes_well fs rest xs v zs c every))
       where
@@ -448,7 +451,8 @@ module _ (hd : Header) (st : Start) (q : Past) (e : Event) (w : World) (shown : 
             let more = either_none (first_of_each (refused_exclude p n) xs) (either (first_of_each
             (Rattle.arj_protocol.specs.Confirm.is_there d) included) (first_of_each Rattle.arj_protocol.specs.Confirm.is_bare
             (entries_after (top_of p) grants excluded included d))) parts.1 in
-            let free = none_mapped (λ (r : Row). Words.confirmed.Conflict (last_uid r.holder) r.mode) (conflict_in x p (at_number x n.objects))
+            let free = none_mapped (λ (r : Row). Words.confirmed.Conflict (last_uid r.holder) r.mode) (conflict_in x p (at_number x
+            n.objects))
             (none_each (refused_exclude p n) xs more.0 x i) in
             let wants = (in_filter (wants_lock (top_of p) excluded d) x (map (λ (z : ℕ × ℕ). z.0) grants) i).1 in
             let s = one_passes (is_wanted x (top_of p) d) (marked x excluded) wants in
@@ -457,7 +461,8 @@ module _ (hd : Header) (st : Start) (q : Past) (e : Event) (w : World) (shown : 
               inl free,
               (
                 (let w = m.0 in w.1),
-                subst (λ y. is_among (leaves_of ls (let a = t.top in a.id) y) (let w = m.0 in w.1) ≡ true) (eqb-true (let w = m.0 in w.0) x z.1)
+                subst (λ y. is_among (leaves_of ls (let a = t.top in a.id) y) (let w = m.0 in w.1) ≡ true) (eqb-true (let w = m.0 in w.0)
+                    x z.1)
                     (leaves m.0 z.0),
               ),
             )
@@ -531,7 +536,8 @@ module _ (hd : Header) (st : Start) (q : Past) (e : Event) (w : World) (shown : 
         path_facts p a =
             let good = base.2.1.0.1.0 in
             let f = path_fits base.2.0 (acts M.seen.lines) good.begun alike a.0 (in_from a.0 base.2.0 a.1) in
-            subst (λ z. (uids (path_by (acts M.seen.lines) (top_of z)) ≡ top_path z) × (tops_in (path_by (acts M.seen.lines) (top_of z)) ≡ tops_of z))
+            subst (λ z. (uids (path_by (acts M.seen.lines) (top_of z)) ≡ top_path z) × (tops_in (path_by (acts M.seen.lines) (top_of z)) ≡
+            tops_of z))
             a.2 ((let z = f.top_is in z.path_is), (let z = f.top_is in z.tops_are))
 
         bind_well : (h : Head) (x : ℕ) (include : Bool) (avoid : Binding) → asks m ≡ Some (h, ask.Bind x include avoid) → (o : Naming) →
@@ -559,7 +565,8 @@ module _ (hd : Header) (st : Start) (q : Past) (e : Event) (w : World) (shown : 
                 (top_plain M.seen.lines right its.top f.first f.more f.are label at_first) its.top_uid
 
             accepted : list.In its.asking.asked (q.accepted ++ asked_of q e ∷ [])
-            accepted = inside.asked its.asking its.there (name its.label) (asks_label (let g = its.goal in g) (let k = its.asking.asked in k.event) its.event)
+            accepted = inside.asked its.asking its.there (name its.label) (asks_label (let g = its.goal in g) (let k = its.asking.asked in
+                k.event) its.event)
               where
                 same_name : Words.bytes_eq (name its.label) (name its.label) ≡ true
                 same_name = (Words.bytes_eq-Decides (name its.label) (name its.label)).1 refl
@@ -676,14 +683,16 @@ module _ (hd : Header) (st : Start) (q : Past) (e : Event) (w : World) (shown : 
                 first = first_node n has
 
                 shows : (y : ℕ) → rows_on (entry y) (table 1 M.seen.lines) ≡ naming_rows y n
-                shows y = subst (λ z. rows_on (entry y) (table z M.seen.lines) ≡ named_locks y t.naming) first (table_now (eq-eqb k 1 first) y)
+                shows y = subst (λ z. rows_on (entry y) (table z M.seen.lines) ≡ named_locks y t.naming) first (table_now (eq-eqb k 1
+                    first) y)
                     ∙ ap (named_locks y) has
 
                 start : (q.count + 1 == up_of 1 M.seen.lines) ≡ false
                 start = (λ i. count_is i + 1 == up_of (sym first i) M.seen.lines) ∙ start_off
 
                 by_reply : (r : Option ConfirmedReply) → Well (saying.outs_of (sends_answer from h
-                    (with_naming t (confirm h.path g x i d.names n).part) (confirm h.path g x i d.names n).outs (option_map Reply.Confirmed r)))
+                    (with_naming t (confirm h.path g x i d.names n).part) (confirm h.path g x i d.names n).outs (option_map
+                    Reply.Confirmed r)))
                     M.seen.lines
                 by_reply None = tt
                 by_reply (Some r) = confirm_well off h.path M.seen.lines right top (path_facts h.path asker) start
@@ -711,19 +720,49 @@ module _ (hd : Header) (st : Start) (q : Past) (e : Event) (w : World) (shown : 
         (saying.map_says is_other query_about (holders d t) (λ u. refl)));
     restart = λ k d M its fresh known h.
         let restarts : is_restart e ≡ true = ap is_restart (sym h.event ∙ its) in
-        walks.each_well passes hd of quiet no_halt st q e (λ b. true) (λ ms b is. in_restart restarts ms b) (restart_outs hd k (d.inc + 1) d)
-        M.seen.lines (saying.restart_says (λ b. true) hd k (d.inc + 1) d (λ b is. refl) (λ is u o how. refl) (λ u. refl) refl);
+        restarted restarts k d M known (k == 1) refl;
   }
     where
-      in_restart : is_restart e ≡ true → (ms : List Line) (b : Body) → tested passes (λ g. of) (at ms) b ≡ true
-      in_restart restarts ms (body.Granted n u o m) =
-          (λ i. not (of (body.Granted n u o m)) || (restarts i || granted_caused (at ms) n u o m)) ∙ later (not (of (body.Granted n u o m)))
+      -- a lock that is given back
+      back_passes : is_restart e ≡ true → (ms : List Line) (u o : Uid) (m : Mode) → is_given_back (at ms) 1 u o m ≡ true →
+          tested passes (λ g. of) (at ms) (body.Granted 1 u o m) ≡ true
+      back_passes restarts ms u o m given =
+          (λ i. not (of (body.Granted 1 u o m)) || (if restarts i then given i else granted_caused (at ms) 1 u o m))
+          ∙ later (not (of (body.Granted 1 u o m)))
         where
           later : (b : Bool) → (b || true) ≡ true
           later true = refl
           later false = refl
-      in_restart restarts ms (body.Up n i) = restarts
-      in_restart restarts ms b = refl
+
+      free_other : (b : Body) → is_free b ≡ true → is_other b ≡ true
+      free_other (body.Granted n u o m) is = absurd (cc is)
+      free_other (body.Up n i) is = absurd (cc is)
+      free_other b is = refl
+
+      -- it grants nothing, or it starts anew
+      starts : Body → Bool
+      starts b = not (is_granted_entry b)
+
+      starts_pass : is_restart e ≡ true → (ms : List Line) (b : Body) → starts b ≡ true → tested passes (λ g. of) (at ms) b ≡ true
+      starts_pass restarts ms (body.Up n i) is = restarts
+      starts_pass restarts ms (body.Granted n u o m) is = λ i. is i || passes (at ms) (body.Granted n u o m)
+      starts_pass restarts ms b is = refl
+
+      coord_starts : (b : Body) → is_coord_line b ≡ true → starts b ≡ true
+      coord_starts (body.Granted n u o m) is = absurd (cc is)
+      coord_starts b is = refl
+
+      restarted : is_restart e ≡ true → (k : ℕ) (d : Disk) (M : Moment) → InIt (moments.down k d M) → (b : Bool) → (k == 1) ≡ b →
+          Well (restart_outs hd k (d.inc + 1) d) M.seen.lines
+      restarted restarts k d M known false off =
+          walks.each_well passes hd of quiet no_halt st q e starts (starts_pass restarts) (restart_outs hd k (d.inc + 1) d)
+          M.seen.lines (saying.restart_says starts hd k (d.inc + 1) d coord_starts
+          (λ one u o how. (let no_way : true ≡ false = sym one ∙ off in absurd (cc no_way))) (λ u. refl) refl)
+      restarted restarts k d M known true one =
+          subst (λ j. Well (restart_outs hd j (d.inc + 1) d) M.seen.lines) (sym (eqb-true k 1 one))
+          (restart_well passes hd of quiet no_halt st q e (back_passes restarts)
+          (λ ms b is. λ i. free_other b is i || passes (at ms) b) (d.inc + 1) d
+          (disk_entries hd (length w.lines) Number k d M known.0.1.0) M.seen.lines restarts)
 
       by : (b : Bool) → is_restart e ≡ b → (k : ℕ) (d : Disk) (t v : Parts) (from : ℕ) (m : Message) (outs : List Effect) (M : Moment) →
           InIt (up k d t M) → Inside M → seen.In (record { from = from; to = k; message = m }) M.seen.sent → MayTake M.past.event m →

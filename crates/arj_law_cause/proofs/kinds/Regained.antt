@@ -250,20 +250,20 @@ module _ (N : ℕ) where
   free_coord b is = refl
 
   module _ (hd : Header) (inc : ℕ) (d : Disk) where
-    abbrev lines : List Effect
+    abbrev pub lines : List Effect
     lines = Do Look ∷ naming_back (Some (recovered_naming inc (let z = d in z.names)))
 
-    abbrev tail : List Effect
+    abbrev pub tail : List Effect
     tail = (((Do Look ∷ recovered_records 1 (let z = d in z.intents)) ++ tolds_again (let z = d in z.intents)) ++ map query_about
         (uid_set (prepared_actions (let z = d in z.store) ++ prepared_actions (let z = d in z.names))))
         ++ map (hello_to 1 inc) (without_number 1 (numbers_to (let z = hd in z.nodes)))
 
-    abbrev behind : List Effect
+    abbrev pub behind : List Effect
     behind = (((lines ++ Do Look ∷ recovered_records 1 (let z = d in z.intents)) ++ tolds_again (let z = d in z.intents)) ++ map query_about
         (uid_set (prepared_actions (let z = d in z.store) ++ prepared_actions (let z = d in z.names))))
         ++ map (hello_to 1 inc) (without_number 1 (numbers_to (let z = hd in z.nodes)))
 
-    in_two : behind ≡ lines ++ tail
+    pub in_two : behind ≡ lines ++ tail
     in_two =
         let two = Do Look ∷ recovered_records 1 (let z = d in z.intents) in
         let three = tolds_again (let z = d in z.intents) in
@@ -273,7 +273,7 @@ module _ (N : ℕ) where
         three) four)
         ∙ Words.append_assoc lines ((two ++ three) ++ four) five
 
-    tail_free : All is_free tail
+    pub tail_free : All is_free tail
     tail_free =
         let two = Do Look ∷ recovered_records 1 (let z = d in z.intents) in
         let three = tolds_again (let z = d in z.intents) in

@@ -1,12 +1,11 @@
 -- Each line of a journal says why it stands: what laws say of its kinds, one by one, holds of it together.
 use Rattle.arj_law_parts.proofs.Words
-use Words.{◌≡◌, ◌&&◌, ◌||◌, not, ℕ, Bool, true, false, List, [], ◌∷◌, refl, and_parts, AllByRecursion, Body, Event, Header, Line}
+use Words.{◌≡◌, ◌&&◌, ◌||◌, if◌then◌else◌, not, ℕ, Bool, true, false, List, [], ◌∷◌, refl, and_parts, AllByRecursion, Body, Event, Header, Line}
 use Words.{journal_by}
 use Words.body
 use Words.cause
 use Words.ending
 use Rattle.arj_law_runs.specs.follow.Frames.{are_so, run_events}
-use Rattle.arj_model.specs.CauseLocks.{is_restart}
 use Rattle.arj_model.specs.CauseSpans.{Here, behind, here_at}
 use Rattle.arj_model.specs.Caused.{has_cause}
 use Rattle.arj_model.specs.Follows.{Follows, Runs, Step, is_ending}
@@ -283,9 +282,9 @@ why h (body.Granted n u o mode) is = by (is_entry o) is
     b = body.Granted n u o mode
 
     by : (e : Bool) → ((not (not e) || has_cause h b) && ((not e || is_granted_so h b) && true)) ≡ true →
-        (e && is_restart h.event || has_cause h b) ≡ true
+        (if e then is_granted_so h b else has_cause h b) ≡ true
     by false k = (and_parts (has_cause h b) true k).0
-    by true k = (and_parts (is_restart h.event || has_cause h b) true k).0
+    by true k = (and_parts (is_granted_so h b) true k).0
 
 pub journals_say_why : (hd : Header) (r : Run hd) → IsInForm hd r → Runs (TellsWhy hd) r.start (run_events hd r) (journal_by hd r)
 journals_say_why hd r form = runs_too
