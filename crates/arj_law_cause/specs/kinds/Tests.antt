@@ -1,5 +1,5 @@
 -- What lines of some kinds say is so: parts of their causes.
-use Rattle.std.specs.Prelude.{ℕ, ◌+◌, [], ◌∷◌, Bool, true, ◌==◌, ◌&&◌, not, if◌then◌else◌, nat_le, is_none}
+use Rattle.std.specs.Prelude.{ℕ, ◌+◌, [], ◌∷◌, Bool, true, ◌==◌, ◌&&◌, ◌||◌, not, if◌then◌else◌, nat_le, is_none}
 use Rattle.arj_base.specs.Rows.{first_conflict}
 use Rattle.arj_base.specs.declared.mode.Mode.{Mode}
 use Rattle.arj_base.specs.declared.uid.Uid.{Uid}
