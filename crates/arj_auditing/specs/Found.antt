@@ -7,7 +7,7 @@ use Rattle.arj_auditing.specs.declared.auditing.Failure.{Failure}
 use Rattle.arj_auditing.specs.declared.auditing.Failure.TheVariants as failure
 use Rattle.arj_auditing.specs.declared.finding.Finding.{Finding}
 use Rattle.arj_auditing.specs.declared.finding.Finding.TheVariants as finding
-use Rattle.arj_auditing.specs.declared.limits.TheConstants.{FILE_LINES, IMAGE_LINES}
+use Rattle.arj_image.specs.declared.limits.TheConstants.{FILE_LINES, IMAGE_LINES}
 use Rattle.arj_checking.specs.Found.{outside_text, unreadable_text}
 use Rattle.arj_image.specs.Grammar.{IsBadLine, is_whole, most_bytes}
 use Rattle.arj_image.specs.Written.{whole_place}

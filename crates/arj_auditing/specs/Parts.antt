@@ -1,6 +1,6 @@
 -- The lines of an image that is read.
 use Rattle.std.specs.Prelude.{◌≡◌, ◌≤◌, ℕ, List, [], ◌∷◌, length}
-use Rattle.arj_auditing.specs.declared.limits.TheConstants.{FILE_LINES, IMAGE_LINES}
+use Rattle.arj_image.specs.declared.limits.TheConstants.{FILE_LINES, IMAGE_LINES}
 use Rattle.arj_image.specs.Grammar.{Form, HasForm, next_place, nothing_read}
 use Rattle.arj_image.specs.declared.place.Place.{Place}
 

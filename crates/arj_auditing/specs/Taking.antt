@@ -5,7 +5,7 @@ use Rattle.arj_auditing.specs.Parts.{IsFront}
 use Rattle.arj_auditing.specs.declared.intake.Intake.{Intake}
 use Rattle.arj_auditing.specs.declared.intake.Stop.{Stop}
 use Rattle.arj_auditing.specs.declared.intake.Stop.TheVariants as stop
-use Rattle.arj_auditing.specs.declared.limits.TheConstants.{FILE_LINES, IMAGE_LINES}
+use Rattle.arj_image.specs.declared.limits.TheConstants.{FILE_LINES, IMAGE_LINES}
 use Rattle.arj_image.specs.Grammar.{IsBadLine, is_whole}
 use Rattle.arj_image.specs.declared.limits.TheConstants.{FILE_LINE_BYTES, IMAGE_LINE_BYTES}
 use Rattle.arj_image.specs.declared.place.Place.{Place}

@@ -2,8 +2,7 @@
 ghost use Rattle.std.specs.Prelude.{◌≡◌, ◌<◌, ◌+◌, ◌++◌, ◌∷◌, [], ℕ, List, false, length, IfErr, OnOk, if◌then◌else◌};
 ghost use Rattle.arj_auditing.specs.Taking.{IsAt, StopsAt, is_full_at, most_at, room_at};
 
-use crate::limits::{FILE_LINES, IMAGE_LINES};
-use arj_image::{FILE_LINE_BYTES, IMAGE_LINE_BYTES, ImageReader};
+use arj_image::{FILE_LINE_BYTES, FILE_LINES, IMAGE_LINE_BYTES, IMAGE_LINES, ImageReader};
 use arj_lines::Taker;
 use arj_script::ScriptFault;
 use std::alloc::Global;

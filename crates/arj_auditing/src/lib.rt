@@ -8,8 +8,7 @@
 mod auditing;
 mod finding;
 mod intake;
-mod limits;
 mod text;
 
+pub use arj_image::{FILE_LINES, IMAGE_LINES};
 pub use auditing::audited;
-pub use limits::{FILE_LINES, IMAGE_LINES};

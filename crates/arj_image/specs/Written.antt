@@ -4,14 +4,21 @@ use Rattle.std.specs.List.{AllByRecursion, flat_map}
 use Rattle.arj_base.specs.declared.state.Format.{Format}
 use Rattle.arj_base.specs.declared.state.Format.TheVariants as format
 use Rattle.arj_image.specs.declared.image.Image.{Image}
+use Rattle.arj_image.specs.declared.image.NodeFile.{NodeFile}
 use Rattle.arj_image.specs.declared.place.Place.{Place}
 use Rattle.arj_image.specs.declared.place.Stage.{Stage}
 use Rattle.arj_image.specs.declared.place.Stage.TheVariants as stage
 use Rattle.arj_image.specs.Grammar.{Form, FormatOne, Nodes, Object, Counts, Journal, Says, Files, Has, CountsInForm, FileFits, FitsAt, ObjectFits}
 use Rattle.arj_image.specs.Grammar.{next_place, spelling}
 use Rattle.arj_journal.specs.LineForm.{LineInForm}
+use Rattle.arj_journal.specs.declared.body.Line.{Line}
+use Rattle.arj_journal.specs.declared.header.Header.{Header}
 use Rattle.arj_journal.specs.declared.limits.TheConstants.{NODES}
 use Rattle.arj_text.specs.Fields.{IsWithin}
+
+-- an image, of its header, its numbers of events and of frames, its lines and its files
+abbrev pub image_by : Header → ℕ × ℕ → List Line → List NodeFile → Image
+image_by header counts lines files = record { header = header; events = counts.0; frames = counts.1; journal = lines; files = files }
 
 -- a line with its end
 abbrev pub ended : List ℕ → List ℕ

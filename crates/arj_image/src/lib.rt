@@ -17,6 +17,6 @@ mod text;
 
 pub use image::{Files, Image, NodeFile};
 pub use laws::{lines_are_kept, one_text_per_image};
-pub use limits::{FILE_LINE_BYTES, IMAGE_LINE_BYTES};
+pub use limits::{FILE_LINE_BYTES, FILE_LINES, IMAGE_LINE_BYTES, IMAGE_LINES};
 pub use reader::ImageReader;
-pub use text::image_text;
+pub use text::{image_text, parts_text};

@@ -3,12 +3,12 @@ ghost use Rattle.std.specs.Prelude.{◌≡◌, ◌++◌, IfOk, OnOk, map};
 ghost use Rattle.std.specs.List.{flat_map};
 ghost use Rattle.arj_image.specs.Grammar.{Has, Object, Says};
 ghost use Rattle.arj_image.specs.Texts.{counts_text};
-ghost use Rattle.arj_image.specs.Written.{form_text, format_forms, image_text as text_of};
+ghost use Rattle.arj_image.specs.Written.{form_text, format_forms, image_by, image_text as text_of};
 
 use crate::file::put_file;
 use crate::image::{Image, NodeFile};
 use arj_base::{Bytes, Format};
-use arj_journal::{Line, ObjectLine, put_line, put_nodes, put_object};
+use arj_journal::{Header, Line, ObjectLine, put_line, put_nodes, put_object};
 use arj_text::words::{put_number, put_numbered};
 use std::alloc::{AllocError, Global};
 
@@ -16,16 +16,31 @@ use std::alloc::{AllocError, Global};
 pub fn image_text(alloc: Global, image: &Image) -> Result<Bytes, AllocError>
     ensures { IfOk result (λ text. text ≡ text_of image.now) }
 {
+    let counts = (image.events, image.frames);
+    let lines = image.journal.as_slice();
+    parts_text(alloc, &image.header, counts, lines, image.files.as_slice())
+}
+
+/// The text of the image with this header, these numbers of events and frames, these lines and these files.
+pub fn parts_text(
+    alloc: Global,
+    header: &Header,
+    counts: (u32, u32),
+    lines: &[Line],
+    files: &[NodeFile],
+) -> Result<Bytes, AllocError>
+    ensures { IfOk result (λ text. text ≡ text_of (image_by header.now counts lines.now files.now)) }
+{
     let mut out = Bytes::new(alloc);
-    put_nodes(&mut out, image.header.nodes)?;
+    put_nodes(&mut out, header.nodes)?;
     out.extend(b"\n")?;
-    put_format(&mut out, image.header.format)?;
-    put_objects(&mut out, image.header.objects.as_slice())?;
-    put_counts(&mut out, image.events, image.frames)?;
+    put_format(&mut out, header.format)?;
+    put_objects(&mut out, header.objects.as_slice())?;
+    put_counts(&mut out, counts.0, counts.1)?;
     out.extend(b"\njournal\n")?;
-    put_journal(&mut out, image.journal.as_slice())?;
+    put_journal(&mut out, lines)?;
     out.extend(b"files\n")?;
-    put_files(alloc, &mut out, image.files.as_slice())?;
+    put_files(alloc, &mut out, files)?;
     Ok(out)
 }
 

@@ -1,5 +1,5 @@
 // All nodes as the machine of a script.
-ghost use Rattle.std.specs.Prelude.{◌≡◌};
+ghost use Rattle.std.specs.Prelude.{◌≡◌, ◌≤◌};
 
 use arj_core::Core;
 use arj_disk::{Disk, Rack};
@@ -21,6 +21,16 @@ impl<C> AllNodes<C> {
         ensures { result ≡ self.world }
     {
         self.world
+    }
+}
+
+impl<C: Core> AllNodes<C> {
+    /// The header of the nodes.
+    pub fn header(&self) -> &Header
+        ensures header { result.now ≡ self.now.world.header }
+        ensures few { result.now.nodes ≤ 16 }
+    {
+        self.world.header()
     }
 }
 

@@ -2,11 +2,12 @@
 use Rattle.std.specs.Prelude.{◌≡◌, ◌-◌, ℕ, zero, suc, List, [], ◌++◌, Option, Some, None, slice_get}
 use Rattle.std.specs.List.{filter_map}
 use Rattle.std.specs.Option.{option_map}
-use Rattle.arj_base.specs.Count.{Rose}
 use Rattle.arj_disk.specs.Disk.{Lists, Same}
 use Rattle.arj_disk.specs.FileMap.{FileMap}
+use Rattle.arj_disk.specs.declared.disk.Disk as disk
 use Rattle.arj_disk.specs.declared.slot.Slot.{Slot}
 use Rattle.arj_image.specs.declared.image.NodeFile.{NodeFile}
+use Rattle.arj_world.specs.Disks.{HaveMoved}
 
 -- a file of this node, if there is one of this name
 abbrev pub file_at : ℕ → FileMap → Slot → Option NodeFile
@@ -42,11 +43,7 @@ AreFilesOf files (suc n) all = (before : List NodeFile) × AreFilesOf files n be
 abbrev pub HaveSameFiles : {D : Type 0} → (D → FileMap) → List D → List D → Type 0
 HaveSameFiles file old new = (n : ℕ) → Same (node_files file old n) (node_files file new n)
 
--- A disk's count of stops rose.
-pub record HasRisen {D : Type 0} (stops : D → ℕ) (old new : List D) : Type 0 where
-  pub place : ℕ
-  pub was : D
-  pub is : D
-  pub there : slice_get old place ≡ Some was
-  pub now : slice_get new place ≡ Some is
-  pub rose : Rose (stops was) (stops is)
+-- The disks of so many nodes were read: their files are as they were, and none of them was armed, nor any other disk touched.
+pub record HaveBeenRead {D : Type 0} (d : disk.Ghosts D) (nodes : ℕ) (before after : List D) : Type 0 where
+  pub files : HaveSameFiles d.file before after
+  pub moved : HaveMoved d nodes [] before after

@@ -1,1 +1,4 @@
+pub mod Comes
 pub mod Gathered
+pub mod Saved
+pub mod Stops

@@ -1,9 +1,10 @@
 // The files of the disks of nodes.
 ghost use Rattle.std.specs.Prelude.{◌≡◌, ◌≤◌, ◌++◌, [], IfOk, IsErrOf, OnOk};
 ghost use Rattle.std.specs.List.{cons_option};
-ghost use Rattle.arj_base.specs.Count.{Rose};
-ghost use Rattle.arj_disk.specs.Disk.{Same};
-ghost use Rattle.arj_saving.specs.Gathered.{AreBehind, AreFilesOf, HasRisen, HaveSameFiles, file_at, node_files};
+ghost use Rattle.arj_disk.specs.Counted.{counts};
+ghost use Rattle.arj_disk.specs.Disk.{CountsCall, Same};
+ghost use Rattle.arj_saving.specs.Gathered.{AreBehind, AreFilesOf, HaveBeenRead, file_at, node_files};
+ghost use Rattle.arj_world.specs.Disks.{HasStopped, HaveNotStopped};
 
 use arj_disk::{Disk, DiskFault, Rack, Slot};
 use arj_image::{Files, NodeFile};
@@ -19,8 +20,7 @@ fn put_file<D: Disk>(
 ) -> Result<(), DiskFault>
     ensures put { OnOk result (files.new ≡ files.old ++ cons_option (file_at node (D.file disk.old) slot) []) }
     ensures same { Same (D.file disk.old) (D.file disk.new) }
-    ensures stopped { IsErrOf result DiskFault.Stopped → Rose (D.stops disk.old) (D.stops disk.new) }
-    ensures later { D.stops disk.old ≤ D.stops disk.new }
+    ensures counts { CountsCall (counts D.Disk disk.old) (counts D.Disk disk.new) result DiskFault.Stopped }
 {
     match disk.read(alloc, slot)? {
         None => Ok(()),
@@ -37,8 +37,7 @@ fn put_files<D: Disk>(
 ) -> Result<(), DiskFault>
     ensures put { OnOk result (AreBehind node (D.file disk.old) files.old files.new) }
     ensures same { Same (D.file disk.old) (D.file disk.new) }
-    ensures stopped { IsErrOf result DiskFault.Stopped → Rose (D.stops disk.old) (D.stops disk.new) }
-    ensures later { D.stops disk.old ≤ D.stops disk.new }
+    ensures counts { CountsCall (counts D.Disk disk.old) (counts D.Disk disk.new) result DiskFault.Stopped }
 {
     let names = disk.names(alloc)?;
     for name in names.as_slice() {
@@ -51,8 +50,9 @@ fn put_files<D: Disk>(
 pub fn files_of<D: Disk>(alloc: Global, rack: &mut Rack<D>, nodes: u8) -> Result<Files, DiskFault>
     requires few { nodes ≤ 16 }
     ensures files { IfOk result (λ files. AreFilesOf (node_files D.file rack.old) nodes files) }
-    ensures same { HaveSameFiles D.file rack.old rack.new }
-    ensures stopped { IsErrOf result DiskFault.Stopped → HasRisen D.stops rack.old rack.new }
+    ensures read { HaveBeenRead D.Disk nodes rack.old rack.new }
+    ensures stopped { IsErrOf result DiskFault.Stopped → HasStopped D.Disk rack.old rack.new }
+    ensures unstopped { OnOk result (HaveNotStopped D.Disk rack.old rack.new) }
 {
     let mut files = Files::new(alloc);
     for done in 0..nodes {

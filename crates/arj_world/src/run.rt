@@ -23,7 +23,7 @@ ghost use Rattle.arj_world.specs.declared.run.TheConstants.{MOST_EVENTS};
 use crate::{StepFault, World};
 use arj_core::{Core, Input};
 use arj_disk::{Disk, Rack};
-use arj_journal::{Body, Event, Kind, Label, Lines, Which};
+use arj_journal::{Body, Event, Header, Kind, Label, Lines, Which};
 use std::alloc::AllocError;
 
 /// The most events that a world runs.
@@ -155,6 +155,14 @@ impl<C: Core> World<C> {
         };
         self.wire.say(body, journal)?;
         Err(StepFault::Frames)
+    }
+
+    /// The header of its nodes.
+    pub fn header(&self) -> &Header
+        ensures header { result.now ≡ self.now.header }
+        ensures few { result.now.nodes ≤ 16 }
+    {
+        &self.header
     }
 
     /// How many events were run.

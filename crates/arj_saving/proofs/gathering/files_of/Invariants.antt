@@ -3,4 +3,4 @@ use Rattle.arj_saving.proofs.Racks.{AreGathered}
 use Rattle.arj_saving.proofs.gathering.files_of.Given as goal
 
 abbrev pub invariant-loop-done : goal.invariant-loop-done
-invariant-loop-done g l = AreGathered g.D.Disk.file (l.fn.rack, l.rack) l.done l.files
+invariant-loop-done g l = AreGathered g.D.Disk l.nodes (l.fn.rack, l.rack) l.done l.files

@@ -5,4 +5,4 @@ use Rattle.arj_saving.proofs.gathering.put_files.Given as goal
 
 abbrev pub invariant-loop-name : goal.invariant-loop-name
 invariant-loop-name g l =
-    IsGoing g.D.Disk.file g.D.Disk.stops l.node (l.fn.disk, l.disk) l.fn.files l.files l.name-items (take l.name-index l.name-items)
+    IsGoing g.D.Disk l.node (l.fn.disk, l.disk) l.fn.files l.files l.name-items (take l.name-index l.name-items)
