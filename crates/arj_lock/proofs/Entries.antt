@@ -6,6 +6,7 @@ use Rattle.std.proofs.lemmas.Bool.{and_parts}
 use Rattle.std.proofs.lemmas.Bool.Decides.{nat_tests}
 use Rattle.std.proofs.lemmas.Map.Keys.{ge_from_not_lt}
 use Rattle.std.proofs.lemmas.Cmp.{nat_cmp_total, tied_itself}
+use Rattle.std.specs.Borrow.{Bor}
 use Rattle.std.specs.BTreeMap.{insert_entry, is_at}
 use Rattle.std.specs.Cmp.{nat_cmp_is}
 use Rattle.std.specs.BTreeSet.{BTreeSet}
@@ -18,7 +19,7 @@ use Rattle.std.specs.declared.cmp.Ordering.{Ordering}
 use Rattle.std.specs.declared.cmp.Ordering.TheVariants.{Less, Equal, Greater}
 use Rattle.arj_base.specs.Rows.{Row}
 use Rattle.arj_lock.specs.Groups.{has, is_after, is_next}
-use Rattle.arj_lock.specs.Index.{AreIndexed, IsAbove, IsFirst, Joins, has_lock, lock_at, put_lock, stands, without_lock}
+use Rattle.arj_lock.specs.Index.{AreIndexed, IsAbove, IsFirst, IsFound, Joins, has_lock, lock_at, put_lock, stands, without_lock}
 use Rattle.arj_lock.specs.Locks.{rows_in, shown}
 use Rattle.arj_lock.specs.declared.group.Group.{Group}
 use Rattle.arj_lock.specs.declared.group.Member.{Member}
@@ -136,9 +137,10 @@ module _ (p : ℕ × Lock → Bool) where
       by true is here ih = let same : x ≡ e = cc in (subst (λ y. lock_at y.0 (x ∷ es) ≡ Some y.1) same (at_head x es), ap p (sym same) ∙ is)
       by false is there ih = ih there
 
-  pub if_found : (es : List (ℕ × Lock)) (o : Option (ℕ × Lock)) → Rises es → o ≡ find p es → IfSome o (λ e. lock_at e.0 es ≡ Some e.1)
+  pub if_found : (es : List (ℕ × Lock)) (o : Option (ℕ × Bor Lock)) → Rises es → IsFound (find p es) o
+      → IfSome o (λ e. lock_at e.0 es ≡ Some e.1.now)
   if_found es None rises is = tt
-  if_found es (Some e) rises is = (found_at es e rises (sym is)).0
+  if_found es (Some e) rises is = (found_at es (e.0, e.1.now) rises is).0
 
 -- and so by an index
 module _ (group : Group) (after : Option ℕ) (es : List (ℕ × Lock)) (index : BTreeSet Member) (rises : Rises es) (are : AreIndexed (λ n. lock_at n es) index) where
@@ -295,9 +297,9 @@ module _ (group : Group) (es : List (ℕ × Lock)) where
   one_in_group e found =
       one_passes (has group) (rows_in es) (shown e.1) (find_row (has group) es ∙ ap (option_map (λ (x : ℕ × Lock). shown x.1)) found)
 
-  pub some_in_group : (o : Option (ℕ × Lock)) → o ≡ find (is_next group None) es → is_some o ≡ list_any (has group) (rows_in es)
-  some_in_group None is = sym (none_in_group (sym is))
-  some_in_group (Some e) is = sym (one_in_group e (sym is))
+  pub some_in_group : (o : Option (ℕ × Bor Lock)) → IsFound (find (is_next group None) es) o → is_some o ≡ list_any (has group) (rows_in es)
+  some_in_group None is = sym (none_in_group is)
+  some_in_group (Some e) is = sym (one_in_group (e.0, e.1.now) is)
 
   pub is_in_group : (e : ℕ × Lock) → Rises es → find (is_next group None) es ≡ Some e → has group (shown e.1) ≡ true
   is_in_group e rises found = (found_at (is_next group None) es e rises found).1

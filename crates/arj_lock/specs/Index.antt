@@ -1,5 +1,6 @@
 -- The index of a lock table.
 use Rattle.std.specs.Prelude.{ℕ, ◌≡◌, ◌<◌, ◌≤◌, ◌||◌, ◌&&◌, Bool, true, false, not, if◌then◌else◌, List, [], ◌∷◌, Option, Some, None, ⊤}
+use Rattle.std.specs.Borrow.{Bor}
 use Rattle.std.specs.BTreeMap.{is_at}
 use Rattle.std.specs.BTreeSet.{BTreeSet, contains}
 use Rattle.std.specs.List.Sorted.{IsStrictlySortedBy}
@@ -53,6 +54,11 @@ IsFirst test (Some n) = (test n ≡ true) × ((m : ℕ) → test m ≡ true → 
 -- the lock under a grant
 abbrev pub lock_at : ℕ → List (ℕ × Lock) → Option Lock
 lock_at n grants = lookup (is_at (nat_cmp n)) grants
+
+-- what there is of locks with their grants is found in place
+abbrev pub IsFound : Option (ℕ × Lock) → Option (ℕ × Bor Lock) → Type 0
+IsFound there None = there ≡ None
+IsFound there (Some e) = there ≡ Some (e.0, e.1.now)
 
 -- locks in order of granting, and their index, if it is whole
 pub record AreKept (grants : List (ℕ × Lock)) (whole : Bool) (index : BTreeSet Member) : Type 0 where

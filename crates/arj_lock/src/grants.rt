@@ -5,7 +5,7 @@ ghost use Rattle.std.specs.List.Sorted.{IsStrictlySortedBy};
 ghost use Rattle.std.specs.Map.{keys_of, remove_entry, set_value};
 ghost use Rattle.std.specs.Ordering.{nat_cmp};
 ghost use Rattle.arj_lock.specs.Groups.{has, is_after, is_next};
-ghost use Rattle.arj_lock.specs.Index.{IsAbove, IsIndex, lock_at, put_lock};
+ghost use Rattle.arj_lock.specs.Index.{IsAbove, IsFound, IsIndex, lock_at, put_lock};
 ghost use Rattle.arj_lock.specs.Locks.{rows_in, shown};
 ghost use Rattle.arj_lock.specs.declared.lock.Lock.{Lock};
 
@@ -50,16 +50,16 @@ impl Grants {
     }
 
     /// The first lock of a group, or the next one after this grant.
-    pub fn find(&self, group: Group, after: Option<u64>) -> Option<(u64, Lock)>
-        ensures first { result ≡ find (is_next group after) self.now }
-        ensures at { IfSome result (λ e. lock_at e.0 self.now ≡ Some e.1) }
+    pub fn find(&self, group: Group, after: Option<u64>) -> Option<(u64, &Lock)>
+        ensures first { IsFound (find (is_next group after) self.now) result }
+        ensures at { IfSome result (λ e. lock_at e.0 self.now ≡ Some e.1.now) }
         ensures sorted { IsStrictlySortedBy nat_cmp (keys_of self.now) }
     {
         if !self.whole {
             return scan(&self.locks, group, after);
         }
         let grant = first(&self.index, group, after)?;
-        let lock = *self.locks.get(&grant)?;
+        let lock = self.locks.get(&grant)?;
         Some((grant, lock))
     }
 
@@ -99,6 +99,7 @@ impl Grants {
         ensures { rows_in self.new ≡ filter (λ row. not (has group row)) (rows_in self.old) }
     {
         while let Some((grant, lock)) = self.find(group, None) {
+            let lock = *lock;
             self.remove(grant, &lock);
         }
     }
@@ -174,12 +175,12 @@ fn is_after(after: Option<u64>, grant: u64) -> bool
 }
 
 // The first lock of a group, or the next one after this grant, by a look over all.
-fn scan(locks: &BTreeMap<u64, Lock>, group: Group, after: Option<u64>) -> Option<(u64, Lock)>
-    ensures first { result ≡ find (is_next group after) locks.now.entries }
+fn scan(locks: &BTreeMap<u64, Lock>, group: Group, after: Option<u64>) -> Option<(u64, &Lock)>
+    ensures first { IsFound (find (is_next group after) locks.now.entries) result }
 {
     for (grant, lock) in locks.iter() {
         if is_after(after, *grant) && is_in(lock, group) {
-            return Some((*grant, *lock));
+            return Some((*grant, lock));
         }
     }
     None

@@ -21,6 +21,7 @@ pub fn raise(grants: &mut Grants, object: Uid, holder: Uid, mode: Mode) -> Optio
 {
     let (grant, lock) = grants.find(Group::Own { object, holder }, None)?;
     if lock.mode < mode {
+        let lock = *lock;
         grants.set(grant, &lock, lock.with(mode));
         return Some(true);
     }
@@ -37,6 +38,7 @@ pub fn lower(grants: &mut Grants, action: Uid, object: Uid)
         holder: action,
     };
     if let Some((grant, lock)) = grants.find(own, None) {
+        let lock = *lock;
         let mode = Mode::Read;
         grants.set(grant, &lock, Lock { mode, ..lock });
     }
@@ -89,6 +91,7 @@ pub fn pass(grants: &mut Grants, action: Uid)
 {
     let held = Group::Held { holder: action };
     while let Some((grant, lock)) = grants.find(held, None) {
+        let lock = *lock;
         pass_one(grants, grant, &lock, action);
     }
 }

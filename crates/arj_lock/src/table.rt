@@ -60,12 +60,20 @@ impl LockTable {
         ensures clear { OnOk result (IsClear (uids_of path.now) object mode self.old) }
         ensures kept { OnErr result (self.new ≡ self.old) }
     {
-        if let Some(lock) = first_against(&self.grants, path, object, mode) {
-            return Err(LockFault::Conflict {
-                holder: lock.path.last(),
-                mode: lock.mode,
-            });
+        match self.conflict(path, object, mode) {
+            Some((holder, mode)) => Err(LockFault::Conflict { holder, mode }),
+            None => Ok(self.grant(path, object, mode)?),
         }
+    }
+
+    /// Grants a lock that meets no conflict to the action with this path, and answers whether the action's mode on the object
+    /// rose.
+    pub fn grant(&mut self, path: &Path, object: Uid, mode: Mode) -> Result<bool, AllocError>
+        requires free { first_conflict (uids_of path.now) object mode self.old ≡ None }
+        ensures granted { OnOk result (self.new ≡ grant_row (asked path.now object mode) self.old) }
+        ensures rose { IfOk result (λ rose. rose ≡ is_rise (mode_of object (last_uid (uids_of path.now)) self.old) mode) }
+        ensures kept { OnErr result (self.new ≡ self.old) }
+    {
         if let Some(rose) = raise(&mut self.grants, object, path.last(), mode) {
             return Ok(rose);
         }
@@ -113,8 +121,7 @@ impl LockTable {
         ensures first { result ≡ conflict_with (uids_of path.now) object mode self.now }
         ensures clear { result ≡ None → IsClear (uids_of path.now) object mode self.now }
     {
-        let lock = first_against(&self.grants, path, object, mode)?;
-        Some((lock.path.last(), lock.mode))
+        first_against(&self.grants, path, object, mode)
     }
 
     /// Whether an action or a descendant of it has a lock.

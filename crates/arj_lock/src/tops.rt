@@ -1,31 +1,32 @@
 // What there is to be told of the locks.
 ghost use Rattle.std.specs.Prelude.{◌≡◌, IfOk, List, filter, map, nat_le};
 ghost use Rattle.std.specs.BTreeSet.{IsFromIterResult};
-ghost use Rattle.std.specs.Option.{option_map};
 ghost use Rattle.arj_base.specs.Mode.{mode_code};
 ghost use Rattle.arj_base.specs.Path.{uids_of};
-ghost use Rattle.arj_base.specs.Rows.{first_conflict, has_any, is_on};
+ghost use Rattle.arj_base.specs.Rows.{has_any};
 ghost use Rattle.arj_base.specs.declared.uid.Uid.{Uid};
 ghost use Rattle.arj_lock.specs.Exclusion.{IsOneEach};
 ghost use Rattle.arj_lock.specs.Held.{set_order, below, is_any_top, is_any_write, top_of, AreBelow, AreListed, AreTops};
 ghost use Rattle.arj_lock.specs.Locks.{rows_in, shown};
+ghost use Rattle.arj_lock.specs.Requests.{conflict_with};
 
 use crate::grants::Grants;
 use crate::group::Group;
-use crate::lock::Lock;
 use arj_base::{Mode, Path, Uid, Uids};
 use std::alloc::{AllocError, Global};
 use std::collections::BTreeSet;
 
-/// The first lock that stands against a request: behind at most as many others of its group as there are actions on the path.
-pub fn first_against(grants: &Grants, path: &Path, object: Uid, mode: Mode) -> Option<Lock>
-    ensures { option_map shown result ≡ first_conflict (uids_of path.now) object mode (rows_in grants.now) }
+/// Holder and mode of the first lock that stands against a request: behind at most as many others of its group as there are
+/// actions on the path.
+pub fn first_against(grants: &Grants, path: &Path, object: Uid, mode: Mode) -> Option<(Uid, Mode)>
+    ensures { result ≡ conflict_with (uids_of path.now) object mode (rows_in grants.now) }
 {
     let group = Group::Against { object, mode };
     let mut after = None;
     while let Some((grant, lock)) = grants.find(group, after) {
-        if !path.is_ancestor_or_self(lock.path.last()) {
-            return Some(lock);
+        let holder = lock.path.last();
+        if !path.is_ancestor_or_self(holder) {
+            return Some((holder, lock.mode));
         }
         after = Some(grant);
     }

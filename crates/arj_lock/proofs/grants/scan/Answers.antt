@@ -9,6 +9,6 @@ returns-then-is_in c =
     let test = is_next c.args.group c.args.after in
     record {
       first =
-          (λ i. cond ((sym c.if-is_after.true ∙ c.is_after.ensures) i && (sym c.if-is_in.true ∙ c.is_in.ensures) i) (Some e) (find test c.next.new.self))
-          ∙ ap (find test) (sym c.in-Some.ensures.steps) ∙ c.loop-grant.invariant;
+          sym ((λ i. cond ((sym c.if-is_after.true ∙ c.is_after.ensures) i && (sym c.if-is_in.true ∙ c.is_in.ensures) i) (Some e) (find test c.next.new.self))
+          ∙ ap (find test) (sym c.in-Some.ensures.steps) ∙ c.loop-grant.invariant);
     }

@@ -13,14 +13,14 @@ use Rattle.arj_lock.proofs.tops.is_any_write.Goals as goal
 pub returns-in-Some : goal.returns-in-Some
 returns-in-Some c =
     let es = c.args.grants.now in
-    let x : ℕ × Lock = (c.in-Some.field-0-0, c.in-Some.lock) in
+    let x : ℕ × Lock = (c.in-Some.field-0-0, c.in-Some.lock.now) in
     let a = parted x.0 x.1 es c.in-Some.ensures.at in
     c.is_write.ensures
     ∙ sym (ap (is_any_write c.args.object c.args.action) a.split
     ∙ only_own c.args.object c.args.action (λ row. nat_le 2 (mode_code row.mode)) a.front (shown x.1) a.rest (subst IsOneEach a.split c.requires)
-    (is_in_group (Own c.args.object c.args.action) es x c.in-Some.ensures.sorted (sym c.in-Some.ensures.first)))
+    (is_in_group (Own c.args.object c.args.action) es x c.in-Some.ensures.sorted c.in-Some.ensures.first))
 
 pub returns-in-None : goal.returns-in-None
 returns-in-None c =
     let es = c.args.grants.now in
-    sym (none_own c.args.object c.args.action (λ row. nat_le 2 (mode_code row.mode)) (rows_in es) (none_in_group (Own c.args.object c.args.action) es (sym c.in-None.ensures.first)))
+    sym (none_own c.args.object c.args.action (λ row. nat_le 2 (mode_code row.mode)) (rows_in es) (none_in_group (Own c.args.object c.args.action) es c.in-None.ensures.first))

@@ -12,13 +12,12 @@ pub returns-in_err-grant-clause-first : goal.returns-in_err-grant-clause-first
 returns-in_err-grant-clause-first c =
     let es = c.self.inside.locks.entries in
     let index = c.self.inside.index in
-    c.from_residual.ensures
-    ∙ sym (indexed_none c.args.group c.args.after es index c.self.invariant.sorted (subst (λ b. IsIndex (λ n. lock_at n es) b index) c.if-not-self.false c.self.invariant.indexed) c.in_err-grant.ensures)
-    ∙ ap (find (is_next c.args.group c.args.after)) c.self.view_is
+    rw c.from_residual.ensures (ap (find (is_next c.args.group c.args.after)) (sym c.self.view_is)
+    ∙ indexed_none c.args.group c.args.after es index c.self.invariant.sorted (subst (λ b. IsIndex (λ n. lock_at n es) b index) c.if-not-self.false c.self.invariant.indexed) c.in_err-grant.ensures)
 
 pub returns-clause-first : goal.returns-clause-first
 returns-clause-first c =
     let es = c.self.inside.locks.entries in
     let index = c.self.inside.index in
-    sym (indexed_some c.args.group c.args.after es index c.self.invariant.sorted (subst (λ b. IsIndex (λ n. lock_at n es) b index) c.if-not-self.false c.self.invariant.indexed) c.in_ok-grant.grant c.in_ok-lock.field-0.now (sym c.in_ok-lock.ensures.value) c.in_ok-grant.ensures)
-    ∙ ap (find (is_next c.args.group c.args.after)) c.self.view_is
+    ap (find (is_next c.args.group c.args.after)) (sym c.self.view_is)
+    ∙ indexed_some c.args.group c.args.after es index c.self.invariant.sorted (subst (λ b. IsIndex (λ n. lock_at n es) b index) c.if-not-self.false c.self.invariant.indexed) c.in_ok-grant.grant c.in_ok-lock.lock.now (sym c.in_ok-lock.ensures.value) c.in_ok-grant.ensures
