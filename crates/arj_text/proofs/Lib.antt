@@ -1,3 +1,4 @@
+pub mod Digits
 pub mod Hex
 pub mod Items
 pub mod Labels

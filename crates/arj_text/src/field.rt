@@ -63,19 +63,29 @@ pub fn number(alloc: Global, bytes: &[u8], low: u64, high: u64) -> Result<Option
     if high < n {
         return Ok(None);
     }
-    if is_printed(alloc, n, text)? {
+    if is_spelled(bytes, n) {
         Ok(Some(n))
     } else {
         Ok(None)
     }
 }
 
-// Whether the text is the number as it is printed.
-fn is_printed(alloc: Global, n: u64, text: &str) -> Result<bool, AllocError>
-    ensures { IfOk result (λ yes. MatchBool yes (text.now ≡ decimal n) (text.now ≢ decimal n)) }
+// Whether the bytes are the number as it is printed: its last digit stands last, and before it the number of its tens, if there
+// are any.
+fn is_spelled(bytes: &[u8], n: u64) -> bool
+    ensures { MatchBool result (bytes.now ≡ decimal n) (bytes.now ≢ decimal n) }
 {
-    let printed = n.to_string(alloc)?;
-    Ok(printed.as_str() == text)
+    let [front @ .., last] = bytes else {
+        return false;
+    };
+    if *last != 48 + (n % 10) as u8 {
+        return false;
+    }
+    if 9 < n {
+        is_spelled(front, n / 10)
+    } else {
+        front.is_empty()
+    }
 }
 
 /// A number from `low` to `high` before a separator, which is no digit, and what stands behind that.

@@ -29,9 +29,9 @@ returns-then-high-n c n within e =
     let same : c.in-Ok-parse.n ≡ n = cc in
     absurd (omega arith)
 
-pub returns-else-branch : goal.returns-else-branch
-returns-else-branch c n within e =
+pub returns-else-is_spelled : goal.returns-else-is_spelled
+returns-else-is_spelled c n within e =
     let read : c.parse.result ≡ Ok n =
     parse-decimal 64 n c.in-Ok.text.now c.parse.result (omega arith) (omega arith) (c.in-Ok.ensures.cases.0 ∙ e) c.parse.ensures.value.0 in
     let same : c.in-Ok-parse.n ≡ n = cc in
-    MatchBool-at_false _ _ c.if-branch.false c.in_ok-is_printed.ensures (c.in-Ok.ensures.cases.0 ∙ (e ∙ ap decimal (sym same)))
+    MatchBool-at_false _ _ c.if-is_spelled.false c.is_spelled.ensures (e ∙ ap decimal (sym same))
