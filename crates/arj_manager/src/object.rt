@@ -326,8 +326,6 @@ fn grant(locks: &mut LockTable, path: &Path, x: u16, mode: Mode) -> Result<Optio
     ensures kept { OnErr result (locks.new ≡ locks.old) }
 {
     rows_are_one_each();
-    match locks.request(path, object_uid(x), mode) {
-        Ok(rose) => Ok(rose.then_some(mode)),
-        Err(_) => Err(AllocError),
-    }
+    let rose = locks.grant(path, object_uid(x), mode)?;
+    Ok(rose.then_some(mode))
 }

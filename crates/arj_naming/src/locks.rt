@@ -27,10 +27,8 @@ fn request(locks: &mut LockTable, top: &Path, x: u16, mode: Mode) -> Result<bool
     ensures one_each { IsOneEach locks.new }
 {
     rows_are_one_each();
-    match locks.request(top, entry_uid(x), mode) {
-        Ok(rose) => Ok(rose),
-        Err(_) => Err(AllocError),
-    }
+    let rose = locks.grant(top, entry_uid(x), mode)?;
+    Ok(rose)
 }
 
 // The line of a lock that rose.

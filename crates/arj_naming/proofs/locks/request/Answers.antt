@@ -8,12 +8,12 @@ use Rattle.arj_protocol.specs.Copy.{row_for}
 use Rattle.arj_naming.proofs.Grants.{asked_rows, asked_lines}
 use Rattle.arj_naming.proofs.locks.request.Goals as goal
 
-pub returns-in-Ok-clause-rows : goal.returns-in-Ok-clause-rows
-returns-in-Ok-clause-rows c =
-    c.in-Ok.ensures.granted ∙ (ap (λ (u : Uid). grant_row (asked c.args.top.now u c.args.mode) c.args.locks.now) c.entry_uid.ensures
+pub returns-clause-rows : goal.returns-clause-rows
+returns-clause-rows c =
+    c.in_ok-rose.ensures.granted ∙ (ap (λ (u : Uid). grant_row (asked c.args.top.now u c.args.mode) c.args.locks.now) c.entry_uid.ensures
     ∙ asked_rows (row_for (entry c.args.x) (uids_of c.args.top.now) (tops_of c.args.top.now) c.args.mode) c.args.locks.now c.requires.one_each)
 
-pub returns-in-Ok-clause-rose : goal.returns-in-Ok-clause-rose
-returns-in-Ok-clause-rose c =
-    asked_lines 1 (row_for (entry c.args.x) (uids_of c.args.top.now) (tops_of c.args.top.now) c.args.mode) c.args.locks.now c.in-Ok.rose c.requires.one_each
-    (c.in-Ok.ensures.rose ∙ ap (λ (u : Uid). is_rise (mode_of u (last_uid (uids_of c.args.top.now)) c.args.locks.now) c.args.mode) c.entry_uid.ensures)
+pub returns-clause-rose : goal.returns-clause-rose
+returns-clause-rose c =
+    asked_lines 1 (row_for (entry c.args.x) (uids_of c.args.top.now) (tops_of c.args.top.now) c.args.mode) c.args.locks.now c.in_ok-rose.rose c.requires.one_each
+    (c.in_ok-rose.ensures.rose ∙ ap (λ (u : Uid). is_rise (mode_of u (last_uid (uids_of c.args.top.now)) c.args.locks.now) c.args.mode) c.entry_uid.ensures)
