@@ -142,7 +142,9 @@ pub fn pack(alloc: Global, state: &ObjectState) -> Result<Bytes, AllocError>
     ensures in_form { OnOk result (StateInForm state.now) }
 {
     let length = state.payload.as_slice().len() as u16;
-    let mut packed = Bytes::new(alloc);
+    // Before the payload stand 48 bytes at most.
+    let room = Vec::with_capacity(alloc, 48 + usize::from(length))?;
+    let mut packed = Bytes::from_vec(room);
     packed.extend(&state.format.mark())?;
     packed.extend(&state.uid.to_bytes())?;
     put_class(&mut packed, state.format, state.class)?;

@@ -20,7 +20,9 @@ pub fn file_of(alloc: Global, states: &[ObjectState]) -> Result<Bytes, AllocErro
     ensures fit { OnOk result (AllByRecursion FitsRow states.now) }
 {
     let count = states.len() as u16;
-    let mut bytes = Bytes::new(alloc);
+    // The row of a number has 58 bytes.
+    let room = Vec::with_capacity(alloc, 64 * states.len())?;
+    let mut bytes = Bytes::from_vec(room);
     bytes.extend(b"ARJS")?;
     bytes.extend(&two(count))?;
     put_rows(alloc, &mut bytes, states)?;
