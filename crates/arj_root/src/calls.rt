@@ -8,6 +8,7 @@ ghost use Rattle.arj_protocol.specs.Tree.{is_spent};
 ghost use Rattle.arj_root.specs.Noted.{of_calls, of_tree};
 
 use crate::index::Index;
+use crate::trail::Trail;
 use arj_base::{Path, Uid};
 use arj_tree::Tree;
 use std::alloc::{AllocError, Global};
@@ -16,17 +17,16 @@ use std::marker::Model;
 /// A call on an object that was answered.
 #[derive(Drop)]
 pub struct Call {
-    pub path: Path,
+    pub path: Trail,
     pub x: u16,
 }
 
 impl Model for Call {
-    ghost use Rattle.arj_base.specs.Path.{uids_of};
     ghost use Rattle.arj_protocol.specs.Coord.{Said};
 
     ghost Value = { Said };
 
-    ghost view = { λ c. record { path = uids_of c.path; x = c.x } };
+    ghost view = { λ c. record { path = c.path; x = c.x } };
 }
 
 /// The calls on objects that were answered, one of each action and object, in order. Contracts see the protocol's list.
@@ -77,9 +77,10 @@ impl Calls {
         if self.by_object.has(x, path.last()) {
             return Ok(());
         }
+        let trail = Trail::new(self.alloc, path)?;
         self.said.reserve(1)?;
         self.by_object.add(self.alloc, x, path)?;
-        self.said.push_reserved(Call { path: *path, x });
+        self.said.push_reserved(Call { path: trail, x });
         Ok(())
     }
 

@@ -46,12 +46,13 @@ impl Index {
         ensures added { OnOk result (self.new ≡ indexed number (uids_of path.now) self.old) }
         ensures kept { OnErr result (self.new ≡ self.old) }
     {
+        let trail = Trail::new(alloc, path)?;
         if let Some(paths) = self.paths.get_mut(&number) {
-            return paths.push(Trail::new(path));
+            return paths.push(trail);
         }
-        // Most lists have one path, which is long.
+        // Most lists have one path.
         let mut paths = Vec::with_capacity(alloc, 1)?;
-        paths.push(Trail::new(path))?;
+        paths.push(trail)?;
         self.paths.insert(number, Seq::from_vec(paths))?;
         Ok(())
     }

@@ -28,3 +28,4 @@ pub use questions::{least_grant, objects_in, top_uses};
 pub use root::Root;
 pub use sends::{Sends, Went};
 pub use survival::{counts, is_kept_top, is_retained, survives};
+pub use trail::Trail;

@@ -7,6 +7,7 @@ ghost use Rattle.arj_root.specs.Noted.{of_sends, of_tree};
 
 use crate::index::Index;
 use crate::survival::survives;
+use crate::trail::Trail;
 use arj_base::{NodeList, Path, Uid};
 use arj_tree::Tree;
 use std::alloc::{AllocError, Global};
@@ -16,18 +17,17 @@ use std::marker::Model;
 /// A node that was sent a message of an action, and whether that was an Invoke.
 #[derive(Drop)]
 pub struct Went {
-    path: Path,
+    path: Trail,
     node: u8,
     invoke: bool,
 }
 
 impl Model for Went {
-    ghost use Rattle.arj_base.specs.Path.{uids_of};
     ghost use Rattle.arj_protocol.specs.Coord as coord;
 
     ghost Value = { coord.Went };
 
-    ghost view = { λ w. record { path = uids_of w.path; node = w.node; invoke = w.invoke } };
+    ghost view = { λ w. record { path = w.path; node = w.node; invoke = w.invoke } };
 }
 
 /// The nodes that were sent messages of actions, each action, node and kind once, in order. Contracts see the protocol's
@@ -74,10 +74,11 @@ impl Sends {
         if self.invokes.has(u16::from(node), path.last()) {
             return Ok(());
         }
+        let trail = Trail::new(self.alloc, path)?;
         self.went.reserve(1)?;
         self.invokes.add(self.alloc, u16::from(node), path)?;
         self.went.push_reserved(Went {
-            path: *path,
+            path: trail,
             node,
             invoke: true,
         });
@@ -92,10 +93,11 @@ impl Sends {
         if self.others.has(u16::from(node), path.last()) {
             return Ok(());
         }
+        let trail = Trail::new(self.alloc, path)?;
         self.went.reserve(1)?;
         self.others.add(self.alloc, u16::from(node), path)?;
         self.went.push_reserved(Went {
-            path: *path,
+            path: trail,
             node,
             invoke: false,
         });
@@ -129,7 +131,7 @@ fn sent_of(alloc: Global, went: &[Went], action: Uid) -> Result<BTreeSet<u8>, Al
     while i > 0 {
         i -= 1;
         let sent = &went[i];
-        if sent.path.is_ancestor_or_self(action) {
+        if sent.path.has(action) {
             nodes.insert(sent.node)?;
         }
     }

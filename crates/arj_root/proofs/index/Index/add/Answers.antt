@@ -12,7 +12,7 @@ returns-in-Some-clause-added c =
     let p = uids_of c.args.path.now in
     let found : c.in-Some.paths.now ≡ listed k m = ap (λ o. unwrap_or o []) c.in-Some.ensures.value in
     on_ok_weaker c.push.result (λ is. put_back k m (c.get_mut.follows.lender c.push.new.self).entries c.in-Some.paths.now c.push.new.self (listed k m ++ p ∷ [])
-    (sym c.in-Some.ensures.value) c.get_mut.ensures.ordered (c.get_mut.follows.holds c.push.new.self).0 (is ∙ (λ i. found i ++ c.new.ensures i ∷ []))
+    (sym c.in-Some.ensures.value) c.get_mut.ensures.ordered (c.get_mut.follows.holds c.push.new.self).0 (is ∙ (λ i. found i ++ c.in_ok-trail.ensures i ∷ []))
     ∙ ap (λ (m2 : Index). indexed k p m2) c.self.view_is) c.push.ensures.ok
 
 pub returns-in-Some-clause-kept : goal.returns-in-Some-clause-kept

@@ -14,7 +14,7 @@ pub invariant_of-self-2 : goal.invariant_of-self-2
 invariant_of-self-2 c =
     let w : Went = record { path = uids_of c.args.path.now; node = c.args.node; invoke = true } in
     let items : c.push_reserved.new.self.items ≡ c.self.inside.went.items ++ w ∷ [] =
-    c.push_reserved.ensures.items ∙ ap (λ (l : List Went). l ++ w ∷ []) c.reserve.ensures.items in
+    c.push_reserved.ensures.items ∙ (λ i. c.reserve.ensures.items i ++ record { path = c.in_ok-trail.ensures i; node = c.args.node; invoke = true } ∷ []) in
     let own : HasSends true c.add.new.self c.push_reserved.new.self.items =
     sends_noted c.self.inside.invokes c.add.new.self c.self.inside.went.items c.push_reserved.new.self.items w c.from-2.result c.self.invariant.0 c.from-2.ensures c.in_ok-add.ensures.added items in
     let kept : HasSends false c.self.inside.others c.push_reserved.new.self.items =
@@ -26,4 +26,4 @@ returns-clause-noted c =
     let w : Went = record { path = uids_of c.args.path.now; node = c.args.node; invoke = true } in
     send_new w c.self.inside.went.items c.args.self.now c.push_reserved.new.self.items
     (asked_send c.self.inside.invokes c.self.inside.went.items c.args.self.now w c.from.result c.last.result c.has.result c.self.view_is c.self.invariant.0 c.from.ensures c.last.ensures c.has.ensures ∙ c.if-has.false)
-    c.self.view_is (c.push_reserved.ensures.items ∙ ap (λ (l : List Went). l ++ w ∷ []) c.reserve.ensures.items)
+    c.self.view_is (c.push_reserved.ensures.items ∙ (λ i. c.reserve.ensures.items i ++ record { path = c.in_ok-trail.ensures i; node = c.args.node; invoke = true } ∷ []))
