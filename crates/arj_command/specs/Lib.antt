@@ -1,3 +1,4 @@
+pub mod Below
 pub mod Command
 pub mod Facts
 pub mod Outcome

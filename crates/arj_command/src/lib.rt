@@ -9,4 +9,5 @@
 mod run;
 mod words;
 
+pub use arj_law_nodes::cores_say_their_readings;
 pub use run::run_on;

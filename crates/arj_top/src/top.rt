@@ -1,22 +1,20 @@
 // The top call.
 ghost use Rattle.std.specs.Prelude.{◌≡◌, ◌≢◌, ◌≤◌, ◌⊎◌, ℕ, [], None};
 ghost use Rattle.arj_base.specs.Count.{Rose};
-ghost use Rattle.arj_auditing.specs.Audits.{Audits};
 ghost use Rattle.arj_checking.specs.Checks.{Checks, ends};
 ghost use Rattle.arj_command.specs.Command.{IsAudit, IsCheck, IsCommand, IsGenerate, IsProgram, IsReplay};
 ghost use Rattle.arj_command.specs.Outcome.{BankHeadline, Headline, Shown, around, said};
+ghost use Rattle.arj_command.specs.Below.{Audits, reading_of};
 ghost use Rattle.arj_command.specs.Programs.{ProgramsHeadline};
 ghost use Rattle.arj_loop.specs.Replayed.{outside};
 ghost use Rattle.arj_nodes.specs.AllNodes.{AreFresh};
-ghost use Rattle.arj_law_nodes.specs.nodes.Readings.{reading_of};
 
 use arj_checking::Finding;
-use arj_command::run_on;
+use arj_command::{cores_say_their_readings, run_on};
 use arj_core::Core;
 use arj_disk::{Disk, Rack};
 use arj_io::{Sink, Source};
 use arj_journal::Lines;
-use arj_law_nodes::cores_say_their_readings;
 use arj_loop::BadLine;
 use arj_node::NodeCore;
 use arj_parts::NodeParts;
