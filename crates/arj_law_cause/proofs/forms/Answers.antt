@@ -15,7 +15,7 @@ use Rattle.arj_class.specs.Table.{is_full_for}
 use Rattle.arj_journal.specs.ScriptForm.{EventInForm}
 use Rattle.arj_law_promise.proofs.Terms.{all_append}
 use Rattle.arj_law_runs.specs.follow.Frames.{run_events}
-use Rattle.arj_model.specs.Follows.{AreEnding, IsAnswerOf, IsCallOf, is_ending}
+use Rattle.arj_model.specs.Follows.{AreEnding, IsCallOf, is_ending}
 use Rattle.arj_model.specs.Past.{Along, Asked, Past, asked_of, at_start, block, is_refused, next}
 use Rattle.arj_model.specs.Refusals.{answers_to, asks_by, has_ended, is_ask_by, last_asked, pending, waits_for}
 use Rattle.arj_promise.specs.Runs.{AreMovesInForm, IsInForm, Run, journal_by}

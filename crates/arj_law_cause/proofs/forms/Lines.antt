@@ -14,7 +14,7 @@ use Rattle.arj_law_runs.proofs.forms.{Labels.runs_say_labels, World.node_form, W
 use Rattle.arj_law_runs.specs.addresses.Addresses.{IsNode, SaysOf}
 use Rattle.arj_law_runs.specs.forms.Labels.{LabelsInForm}
 use Rattle.arj_law_runs.specs.forms.World.{IsSaidInForm}
-use Rattle.arj_promise.specs.Runs.{IsInForm, Run, journal_by}
+use Rattle.arj_promise.specs.Runs.{journal_by}
 use Rattle.arj_law_cause.proofs.forms.Answers.{OkInForm, runs_say_ok}
 use Rattle.arj_law_cause.proofs.forms.Numbers.{runs_say_numbers}
 use Rattle.arj_law_cause.proofs.forms.Objects.{LineSo, runs_name_such}

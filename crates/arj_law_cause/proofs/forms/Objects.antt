@@ -1,6 +1,6 @@
 -- Objects and actions that lines name, in every run: of calls, includes and commits, of locks, and of what is prepared and done.
 use Rattle.arj_law_parts.proofs.Words
-use Words.{⊤, ◌⊎◌, ⊎_elim, inr, ◌≡◌, ◌∙◌, ◌+◌, ◌==◌, ◌||◌, ℕ, Bool, true, false, cond, List, [], ◌∷◌, ◌++◌, flat_map, map, find}
+use Words.{⊤, ⊎_elim, inr, ◌≡◌, ◌∙◌, ◌+◌, ◌==◌, ◌||◌, ℕ, Bool, true, false, cond, List, [], ◌∷◌, ◌++◌, flat_map, map, find}
 use Words.{Option, Some, None, IfSome, refl, sym, ap, subst, AllByRecursion, and_parts, list_all, either, option_map, in_find, uid_is, numbered, has}
 use Words.{uid_set, without_number, uid_eq, last_uid, Body, Header, Line, Message, Uid, Disk, Effect, Ask, Asked, Reply, ObjectState, Row}
 use Words.{InvokedReply, answers, last_end, acked, answer_query, heard, handle_other}

@@ -1,7 +1,7 @@
 -- Lines of what disks hold are in form: entries that naming has, and states that stores have, are so behind each run.
 use Rattle.arj_law_parts.proofs.Words
 use Words.{⊤, inl, inr, ◌≡◌, ◌≤◌, ◌==◌, ◌∙◌, ◌&&◌, ℕ, true, not, List, [], ◌∷◌, Option, Some, None, refl, sym, ap, subst}
-use Words.{suc, In, arith, nat_tests, is_some, length, nat_le, list_all, AllByRecursion, eqb-true, Body, Entry, Header, Line, Node}
+use Words.{suc, In, arith, nat_tests, is_some, length, nat_le, list_all, AllByRecursion, eqb-true, Body, Header, Line, Node}
 use Words.{ObjectLine, ObjectState, Uid, at_place, entry, held_at, object, state_entry, see, world_by, in_find}
 use Words.body
 use Rattle.arj_base.specs.Uid.{UidFits}

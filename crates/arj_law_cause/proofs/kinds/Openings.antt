@@ -2,9 +2,9 @@
 -- They are own lines of the event; and by the lines before it who is aborted was open.
 use Rattle.arj_law.proofs.Reading.{read_none}
 use Rattle.arj_law_parts.proofs.Words
-use Words.{◌≡◌, ◌∙◌, ◌⊎◌, ◌++◌, ◌&&◌, ◌||◌, ◌==◌, ⊤, not, Bool, true, false, List, [], ◌∷◌, length, filter, Option, Some, None, refl, sym, ap, subst}
-use Words.{ℕ, ◌+◌, append_assoc, inl, inr, In, cond, and_parts, list_all, list_any, is_on, uid_is, arith, nat_tests, append-nil, Body, Event, Header, Kind, Label, Line}
-use Words.{Start, Uid, bytes_eq, bytes_eq-Decides, name, is_serial, journal_by}
+use Words.{◌≡◌, ◌∙◌, ◌++◌, ◌&&◌, ◌||◌, ◌==◌, not, Bool, true, false, List, [], ◌∷◌, length, filter, Option, Some, None, refl, sym, ap, subst}
+use Words.{append_assoc, inl, inr, In, cond, and_parts, list_all, is_on, arith, nat_tests, append-nil, Body, Event, Header, Kind, Label, Line}
+use Words.{Start, bytes_eq, bytes_eq-Decides, name, is_serial, journal_by}
 use Words.body
 use Words.event
 use Words.kind
@@ -17,13 +17,13 @@ use Rattle.arj_law_runs.proofs.journal.Ties.{named_label}
 use Rattle.arj_law_runs.specs.follow.Frames.{are_so, run_events}
 use Rattle.arj_law_runs.specs.journal.Book.{book, new_book}
 use Rattle.arj_law_runs.specs.journal.Right.{AreRight, IsOpen, Right}
-use Rattle.arj_model.specs.Actions.{act_in, acts, acts_after, ended, halt_of, halts, has_end, is_halted, is_over, put, read}
+use Rattle.arj_model.specs.Actions.{act_in, acts, ended, halt_of, halts, has_end, is_halted, is_over}
 use Rattle.arj_model.specs.CauseEnds.{aborts_on}
 use Rattle.arj_model.specs.CauseSpans.{Here, behind, here_at}
 use Rattle.arj_model.specs.Caused.{has_cause}
 use Rattle.arj_model.specs.Follows.{Runs}
 use Rattle.arj_model.specs.Own.{AreAborted, AreGiveUps, Ends, aborted_by, aborted_of, commit_line, may_stand}
-use Rattle.arj_model.specs.Past.{Along, Past, block, is_refused, next}
+use Rattle.arj_model.specs.Past.{Along, Past, is_refused, next}
 use Rattle.arj_model.specs.Refusals.{holds_of, is_over_act}
 use Rattle.arj_law_cause.proofs.follow.lines.Aborts.{on_in}
 use Rattle.arj_law_cause.proofs.follow.lines.Events.{lines_follow}

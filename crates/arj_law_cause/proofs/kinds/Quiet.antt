@@ -19,7 +19,7 @@ use Rattle.arj_law_parts.proofs.steps.Settled.{settled}
 use Rattle.arj_law_parts.specs.moves.Moments.{History, no_history}
 use Rattle.arj_law_parts.specs.moves.With.{HoldsWith, past_event}
 use Rattle.arj_law_parts.specs.steps.Spoken.{is_of_parts}
-use Rattle.arj_law_runs.proofs.Terms.{Act, acts, acts_after, act_in, put, read}
+use Rattle.arj_law_runs.proofs.Terms.{Act, acts, act_in}
 use Rattle.arj_law_runs.proofs.follow.Along.{Ended, Outcome, Went, event_of, runs_along}
 use Rattle.arj_law_runs.proofs.follow.Frames as frames
 use Rattle.arj_law_runs.proofs.follow.Refusing as refusing

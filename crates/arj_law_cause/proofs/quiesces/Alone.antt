@@ -7,7 +7,7 @@ use Words.{Doing, Now, doing_of, has, Did, Say, Parts, Ran, with_coord}
 use Words.{whole, Input, Node, acts, is_waiting_now, at_place, place_other, set_place, World, Seen, see}
 use Words.{IsOvertaken, IsSaid, step, steps, step_node, step_with, done_step, halted_at, armed, disarmed, cut, count_works, at_number}
 use Words.{Arm, nat_lt, refusal}
-use Words.{bodies, Branch, Intent}
+use Words.{Branch, Intent}
 use Words.{Label, name, Step, branch_named, branch_numbered, branch_of, coord_did, counted, first_reason, giving, happens, is_empty}
 use Words.{is_own, lacks_labels}
 use Words.{limited, no_labels, number_of, reasons, refusal_at, refusal_up, run_unless, step_of, step_unless, step_up, uid_at, moved}

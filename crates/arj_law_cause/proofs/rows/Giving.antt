@@ -10,7 +10,7 @@ use Words.input
 use Rattle.std.specs.Prelude.{drop}
 use Rattle.std.proofs.Math.Seq.{drop-append_seam}
 use Rattle.arj_law_serial.proofs.Terms
-use Terms.{Act, act_in, acts, acts_after, acts_more, has_end, put, read}
+use Terms.{Act, act_in, acts, acts_more, has_end}
 use Rattle.arj_law_lock_view.proofs.asking.Tying.{answers_stay}
 use Rattle.arj_law_lock_view.specs.asking.Asked.{accepted_of}
 use Rattle.arj_law_parts.specs.moves.Moments.{Moment}

@@ -1,10 +1,10 @@
 -- What is sent in a run can be spelled, and what isn't shown of it where events are in no form.
-use Rattle.std.specs.Prelude.{ℕ, ⊤}
+use Rattle.std.specs.Prelude.{⊤}
 use Rattle.std.specs.List.{AllByRecursion}
 use Rattle.arj_journal.specs.ScriptForm.{HeaderInForm}
 use Rattle.arj_class.specs.Forms.{OpInForm}
 use Rattle.arj_msg.specs.Sendable.{IsSendable, InvokedSends, LoadedSends, StateSends}
-use Rattle.arj_protocol.specs.Words.{Header, Message, ObjectState, VotedReply}
+use Rattle.arj_protocol.specs.Words.{Header, Message, VotedReply}
 use Rattle.arj_protocol.specs.Words.message
 use Rattle.arj_protocol.specs.Words.voted
 use Rattle.arj_law_parts.specs.moves.Keeps.{Holds}

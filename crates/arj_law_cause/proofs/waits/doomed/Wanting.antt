@@ -1,16 +1,16 @@
 -- What coordinators wait for: it was waited for before, or asked for since, through all that a node does at a step, with its messages to
 -- itself.
 use Rattle.arj_law_parts.proofs.Words
-use Words.{◌≡◌, ◌⊎◌, ◌∙◌, ◌==◌, ℕ, zero, suc, Bool, true, false, List, [], ◌∷◌, ◌++◌, Option, Some, None, refl, sym, ap, subst, inl, inr, ⊎_elim, ⊤}
+use Words.{◌≡◌, ◌⊎◌, ◌∙◌, ◌==◌, ℕ, zero, suc, Bool, true, false, List, [], ◌∷◌, ◌++◌, Option, Some, None, refl, sym, ap, subst, inl, inr, ⊎_elim}
 use Words.{append-nil, append_assoc, in_left, in_right, uid_cases, taken_took, Ask, Asked, Head, Header, Message, Uid, Reply, asks, answers}
 use Words.{Disk, Effect, Send, Handled, Here, Parts, Ran, Took, Void, by_reply, coord_heard, handle, handle_all, handle_answer, handle_ask}
-use Words.{heard, most_rounds, next_round, ran, ran_handled, rounds, taken, whole, with_coord, serve, Steps, Machine, left_of, has, Calling}
+use Words.{heard, most_rounds, next_round, ran, ran_handled, rounds, taken, whole, with_coord, Steps, Machine, left_of, has, Calling}
 use Words.{Committing, Coord, Doing, doing_of, Post, Seen, Do, Say, worked, cond, eqb-true, first_done, first_queued, Frame, frames_with, sends}
 use Words.list as members
 use Rattle.arj_law_runs.proofs.Terms
 use Terms.{AreLooks, AsksFor, In, KeepsAsked, LooksAlone, Up, Walks, Want, taken_looks, taken_meant, up, want_of_call, want_of_commit}
 use Rattle.arj_law_runs.proofs.resting
-use resting.Effects.{after, after_sent, after_within, looks_ran, ran_here, ran_sent, walk_end, works}
+use resting.Effects.{after, after_sent, after_within, looks_ran, ran_here, ran_sent, walk_end}
 use resting.Flights.{in_either}
 use resting.Hearing.{AsksIn, Goes, Heard, IsHeardSo, IsHome, Moves, Unheard, Waited, heard_so}
 use resting.Passing.{other_work}

@@ -1,7 +1,7 @@
 -- An action that is given up may wait, by the journal, for each node that the giveup names: it is its own, or its request went there in the
 -- span of what it waits for.
 use Rattle.arj_law_parts.proofs.Words
-use Words.{◌≡◌, ◌⊎◌, ◌∙◌, ◌==◌, ◌&&◌, ◌||◌, ◌≤◌, ℕ, Bool, true, false, if◌then◌else◌, List, [], ◌∷◌, length, Option, Some, None}
+use Words.{◌≡◌, ◌∙◌, ◌==◌, ◌&&◌, ◌||◌, ◌≤◌, ℕ, Bool, true, false, if◌then◌else◌, List, [], ◌∷◌, length, Option, Some, None}
 use Words.{refl, sym, ap, subst, inl, inr, ⊎_elim, arith, nat_tests, nat_le, list_any, eqb-true, and_parts, In, Ask, Body, Head, Header}
 use Words.{Message, Uid, Asked, asks, actor, ask_kind, frame_kind, name, is_empty, At, AtActivate, AtBind, AtInvoke, AtLoad, AtNote, Goal}
 use Words.{Calling, Committing, Idle, Now, Doing, doing_of, Steps, Machine, Confirming, Preparing, Voting, ask_at, ask_of, left_of, has}

@@ -6,7 +6,7 @@ use Words.{refl, sym, ap, subst, nat_lt, append-nil, append_assoc, is_some, opti
 use Words.{CallEnd, Goal, Steps, Answered, Included, Conflict, Changed, Lost, Run, end_line, numbered, bytes_eq-Decides}
 use Words.body
 use Words.calls
-use Rattle.arj_law_runs.proofs.Terms.{Act, act_in, acts, acts_after, put, read}
+use Rattle.arj_law_runs.proofs.Terms.{Act, act_in, acts}
 use Rattle.arj_law_runs.proofs.journal.Owners.{acts_more}
 use Rattle.arj_law_parts.specs.moves.Moments.{Asking}
 use Rattle.arj_model.specs.Actions.{begun_of, ended_of, halt_of, has_end, is_halted, numbered as numbered_acts}
