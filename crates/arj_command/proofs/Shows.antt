@@ -146,7 +146,7 @@ module _ {C D : Type 0} (c : core.Ghosts C) (d : disk.Ghosts D) where
 
     -- ---- a run that came to its end
 
-    ended : (given : Arrived) (first after : List D) (end : End) (journal : List Line) (e : EndsSo (all_nodes c d) given first after end journal) (all : AllNodes C) → (let at = e.at in at.machine) ≡ Some all
+    pub ended : (given : Arrived) (first after : List D) (end : End) (journal : List Line) (e : EndsSo (all_nodes c d) given first after end journal) (all : AllNodes C) → (let at = e.at in at.machine) ≡ Some all
         → (let r = e.reached in let s = r.stage in ShowsThePromise d read (task first s.header (events_of s.forms)) all.over journal after)
         → (let r = e.reached in let s = r.stage in Facts c d read (task first s.header (events_of s.forms)) (behind all after journal))
     ended given first after end journal e all is promise =
@@ -171,7 +171,7 @@ module _ {C D : Type 0} (c : core.Ghosts C) (d : disk.Ghosts D) where
 
     -- ---- a run that stopped short
 
-    came : (given : Arrived) (first after : List D) (status : ℕ) (journal : List Line) (run : CameTo (all_nodes c d) given first after status journal) → SoFarShows c d read given first after status journal run
+    pub came : (given : Arrived) (first after : List D) (status : ℕ) (journal : List Line) (run : CameTo (all_nodes c d) given first after status journal) → SoFarShows c d read given first after status journal run
         → CameShows c d read given first after status journal run
     came given first after status journal (inl (at, half, is, went)) shows = (
       λ none. is ∙ bare_at first half.mid half.done half.place at half.stage none,

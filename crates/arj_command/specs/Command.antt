@@ -26,6 +26,11 @@ abbrev pub IsAudit : List (String Global) → Type 0
 IsAudit (word ∷ []) = string_bytes word ≡ codes "audit"
 IsAudit _ = ⊥
 
+-- it is the one word `image`
+abbrev pub IsImage : List (String Global) → Type 0
+IsImage (word ∷ []) = string_bytes word ≡ codes "image"
+IsImage _ = ⊥
+
 -- it is the word `generate` and this text
 abbrev pub NamesBank : List (String Global) → List ℕ → Type 0
 NamesBank (word ∷ number ∷ []) text = (string_bytes word ≡ codes "generate") × (string_bytes number ≡ text)
@@ -39,9 +44,9 @@ most_banks = 4294967296
 abbrev pub IsGenerate : List (String Global) → ℕ → Type 0
 IsGenerate words n = (n < most_banks) × NamesBank words (decimal n)
 
--- it is one of the five
+-- it is one of the six
 abbrev pub IsCommand : List (String Global) → Type 0
-IsCommand words = IsReplay words ⊎ (IsCheck words ⊎ (IsProgram words ⊎ (IsAudit words ⊎ ((n : ℕ) × IsGenerate words n))))
+IsCommand words = IsReplay words ⊎ (IsCheck words ⊎ (IsProgram words ⊎ (IsAudit words ⊎ (IsImage words ⊎ ((n : ℕ) × IsGenerate words n)))))
 
 -- what the words ask for
 abbrev pub Says : List (String Global) → Command → Type 0
@@ -50,6 +55,7 @@ Says words (command.Bank n) = IsGenerate words n
 Says words command.Check = IsCheck words
 Says words command.Program = IsProgram words
 Says words command.Audit = IsAudit words
+Says words command.Image = IsImage words
 Says words command.None = IsCommand words → ⊥
 
 -- the text begins with no `+`, and with a zero only where that is all of it

@@ -5,7 +5,8 @@ ghost use Rattle.arj_bank.specs.Bank.{Generates};
 ghost use Rattle.arj_base.specs.Count.{Rose};
 ghost use Rattle.arj_auditing.specs.Audits.{Audits};
 ghost use Rattle.arj_checking.specs.Checks.{Checks, ends};
-ghost use Rattle.arj_command.specs.Command.{IsAudit, IsCheck, IsCommand, IsGenerate, IsProgram, IsReplay};
+ghost use Rattle.arj_command.specs.Command.{IsAudit, IsCheck, IsCommand, IsGenerate, IsImage, IsProgram, IsReplay};
+ghost use Rattle.arj_command.specs.Images.{ImageHeadline};
 ghost use Rattle.arj_command.specs.Outcome.{BankHeadline, Headline, Shown, around, said, world_of};
 ghost use Rattle.arj_command.specs.Programs.{ProgramsHeadline};
 ghost use Rattle.arj_loop.specs.Replayed.{Closes, StopsShort, answer, outside};
@@ -14,6 +15,7 @@ ghost use Rattle.arj_nodes.specs.AsMachine.{all_nodes};
 ghost use Rattle.arj_law_nodes.specs.nodes.Cores.{SaysReadings};
 ghost use Rattle.arj_law_nodes.specs.nodes.Readings.{Reads, reading_of};
 ghost use Rattle.arj_programs.specs.Outcome.{RunsPrograms};
+ghost use Rattle.arj_saving.specs.Saved.{Saves};
 
 use crate::words::{Command, asked_for};
 use arj_auditing::audited;
@@ -30,6 +32,7 @@ use arj_loop::{BadLine, replay};
 use arj_nodes::AllNodes;
 use arj_programs::run_programs;
 use arj_progrun::programs_mean_their_calls;
+use arj_saving::imaged;
 use arj_store::ObjectStore;
 use arj_world::World;
 use std::alloc::Global;
@@ -62,6 +65,7 @@ fn run_command<S: Source, K: Sink, D: Disk, O: ObjectStore, C: Core + Drop>(
     requires nothing { found.old ≡ None }
     ensures closes { IsReplay words.now → result ≢ 4 → result ≢ 5 → Closes (all_nodes C.Core D.Disk) (outside (S.left source.old) (S.faults source.old) (K.taken sink.old) rack.old) (outside (S.left source.new) (S.faults source.new) (K.taken sink.new) rack.new) (answer result why.new journal.new nodes.new) }
     ensures short { IsReplay words.now → (result ≡ 4) ⊎ (result ≡ 5) → StopsShort (all_nodes C.Core D.Disk) (outside (S.left source.old) (S.faults source.old) (K.taken sink.old) rack.old) (outside (S.left source.new) (S.faults source.new) (K.taken sink.new) rack.new) result }
+    ensures saves { IsImage words.now → Saves (all_nodes C.Core D.Disk) D.Disk (outside (S.left source.old) (S.faults source.old) (K.taken sink.old) rack.old) (outside (S.left source.new) (S.faults source.new) (K.taken sink.new) rack.new) (answer result why.new journal.new nodes.new) }
     ensures generates { (n : ℕ) → IsGenerate words.now n → Generates (all_nodes C.Core D.Disk) (reader D.Disk (held_by O.ObjectStore)) n (outside (S.left source.old) (S.faults source.old) (K.taken sink.old) rack.old) (outside (S.left source.new) (S.faults source.new) (K.taken sink.new) rack.new) (answer result why.new journal.new nodes.new) }
     ensures programs { IsProgram words.now → RunsPrograms (all_nodes C.Core D.Disk) (outside (S.left source.old) (S.faults source.old) (K.taken sink.old) rack.old) (outside (S.left source.new) (S.faults source.new) (K.taken sink.new) rack.new) (answer result why.new journal.new nodes.new) }
     ensures checks { IsCheck words.now → Checks (ends (S.left source.old) (S.faults source.old) (K.taken sink.old)) (ends (S.left source.new) (S.faults source.new) (K.taken sink.new)) result found.new }
@@ -89,6 +93,7 @@ fn run_command<S: Source, K: Sink, D: Disk, O: ObjectStore, C: Core + Drop>(
             alloc, source, sink, rack, journal, why, nodes,
         ),
         Command::Audit => audited::<S, K>(alloc, source, sink),
+        Command::Image => imaged::<S, K, D, C>(alloc, source, sink, rack, journal, why, nodes),
         Command::None => 1,
     }
 }
@@ -113,6 +118,7 @@ pub fn run_on<S: Source, K: Sink, D: Disk, O: ObjectStore, C: Core + Drop>(
     ensures headline { (read : Reads) → SaysReadings C.Core read → IsReplay words.now → result ≢ 4 → result ≢ 5 → Headline C.Core D.Disk read (around (outside (S.left source.old) (S.faults source.old) (K.taken sink.old) rack.old) (outside (S.left source.new) (S.faults source.new) (K.taken sink.new) rack.new)) (said result why.new journal.new world.new) }
     ensures shown { (read : Reads) → SaysReadings C.Core read → IsReplay words.now → (result ≡ 4) ⊎ (result ≡ 5) → Shown C.Core D.Disk read (around (outside (S.left source.old) (S.faults source.old) (K.taken sink.old) rack.old) (outside (S.left source.new) (S.faults source.new) (K.taken sink.new) rack.new)) result }
     ensures bank { SaysReadings C.Core (reading_of O.ObjectStore) → (n : ℕ) → IsGenerate words.now n → BankHeadline C.Core D.Disk (reading_of O.ObjectStore) n (around (outside (S.left source.old) (S.faults source.old) (K.taken sink.old) rack.old) (outside (S.left source.new) (S.faults source.new) (K.taken sink.new) rack.new)) (said result why.new journal.new world.new) }
+    ensures images { (read : Reads) → SaysReadings C.Core read → IsImage words.now → ImageHeadline C.Core D.Disk read (around (outside (S.left source.old) (S.faults source.old) (K.taken sink.old) rack.old) (outside (S.left source.new) (S.faults source.new) (K.taken sink.new) rack.new)) (said result why.new journal.new world.new) }
     ensures programs { (read : Reads) → SaysReadings C.Core read → IsProgram words.now → ProgramsHeadline C.Core D.Disk read (around (outside (S.left source.old) (S.faults source.old) (K.taken sink.old) rack.old) (outside (S.left source.new) (S.faults source.new) (K.taken sink.new) rack.new)) (said result why.new journal.new world.new) }
     ensures checks { IsCheck words.now → Checks (ends (S.left source.old) (S.faults source.old) (K.taken sink.old)) (ends (S.left source.new) (S.faults source.new) (K.taken sink.new)) result found.new }
     ensures checks_alone { IsCheck words.now → (rack.new ≡ rack.old) × (journal.new ≡ journal.old) × (why.new ≡ why.old) × (world.new ≡ world.old) }

@@ -1,7 +1,7 @@
 // What the words of the command line ask for.
 ghost use Rattle.std.specs.Prelude.{◌≡◌, ◌<◌, ℕ, List, MatchBool, MatchOption};
 ghost use Rattle.std.specs.Fmt.{decimal};
-ghost use Rattle.arj_command.specs.Command.{IsAudit, IsCheck, IsPlain, IsProgram, IsReplay, NamesBank, Says, most_banks};
+ghost use Rattle.arj_command.specs.Command.{IsAudit, IsCheck, IsImage, IsPlain, IsProgram, IsReplay, NamesBank, Says, most_banks};
 
 /// What is asked for.
 #[derive(Clone, Copy)]
@@ -16,6 +16,8 @@ pub enum Command {
     Program,
     /// An image is audited.
     Audit,
+    /// A script is run, and its image written.
+    Image,
     /// Nothing: the words aren't a command line.
     None,
 }
@@ -97,6 +99,16 @@ fn is_audit(words: &[String]) -> bool
     word.as_str() == "audit"
 }
 
+// Whether it is the one word `image`.
+fn is_image(words: &[String]) -> bool
+    ensures { MatchBool result (IsImage words.now) (IsImage words.now → ⊥) }
+{
+    let [word] = words else {
+        return false;
+    };
+    word.as_str() == "image"
+}
+
 /// What the words ask for.
 pub fn asked_for(words: &[String]) -> Command
     ensures { Says words.now result }
@@ -112,6 +124,9 @@ pub fn asked_for(words: &[String]) -> Command
     }
     if is_audit(words) {
         return Command::Audit;
+    }
+    if is_image(words) {
+        return Command::Image;
     }
     let Some(word) = bank_word(words) else {
         return Command::None;

@@ -5,7 +5,7 @@ ghost use Rattle.arj_journal.specs.declared.body.Body.{Body};
 use crate::checked::explain_found;
 use crate::forms::form_of;
 use crate::help::{help, usage};
-use crate::images::explain_audit;
+use crate::images::{explain_audit, many_image_lines};
 use crate::pieces::{piece_at, word_at};
 use crate::programs::{bad_programs, many_lines};
 use crate::refused::{count_of_refused, first_refused};
@@ -19,7 +19,7 @@ use arj_words::refusal_words;
 use std::alloc::Global;
 use std::io;
 
-/// What a run leaves, of which is told: its words, whether there are none, or they are a command and a file, or they are `program` or `audit`;
+/// What a run leaves, of which is told: its words, whether there are none, or they are a command and a file, or they are `program`, `audit` or `image`;
 /// the input as far as it was read, where it is remembered; the journal; why a line is bad; and what was found of a journal that was checked.
 #[derive(Clone, Copy)]
 pub struct Ran<'a> {
@@ -27,6 +27,7 @@ pub struct Ran<'a> {
     pub gave_file: bool,
     pub programs: bool,
     pub audits: bool,
+    pub images: bool,
     pub script: Option<&'a [u8]>,
     pub journal: &'a [Line],
     pub why: Option<BadLine>,
@@ -50,8 +51,8 @@ pub fn explain(rt: &impl Eprint, alloc: Global, status: u8, ran: &Ran) -> io::Re
         2 => bad_line(rt, alloc, ran),
         3 => eprintln!(rt; "arjuna: standard input could not be read"),
         4 => eprintln!(rt; "arjuna: standard output could not be written"),
-        6 => limit(rt, ran.programs, last),
-        7 => stopped_disk(rt, last),
+        6 => limit(rt, ran, last),
+        7 => stopped_disk(rt, ran.images, last),
         _ => eprintln!(rt; "arjuna: out of memory"),
     }
 }
@@ -72,10 +73,11 @@ fn refusals(rt: &impl Eprint, journal: &[Line]) -> io::Result<()> {
     }
 }
 
-// A disk stops a run only before its first event, or behind its last one, as a bank's balances are read.
-fn stopped_disk(rt: &impl Eprint, last: Option<&Line>) -> io::Result<()> {
+// A disk stops a run only before its first event, or behind its last one, as a bank's balances or an image's files are read.
+fn stopped_disk(rt: &impl Eprint, images: bool, last: Option<&Line>) -> io::Result<()> {
     match last {
         None => eprintln!(rt; "arjuna: a disk stopped while it was formatted"),
+        Some(_) if images => eprintln!(rt; "arjuna: a disk stopped while its files were read"),
         Some(_) => eprintln!(rt; "arjuna: a disk stopped while the balances were read"),
     }
 }
@@ -176,12 +178,13 @@ fn number_of(last: Option<&Line>) -> Option<u32>
     }
 }
 
-fn limit(rt: &impl Eprint, programs: bool, last: Option<&Line>) -> io::Result<()> {
+fn limit(rt: &impl Eprint, ran: &Ran, last: Option<&Line>) -> io::Result<()> {
     if let Some(line) = last {
         if let Body::Limit { which } = &line.body {
             let event = line.event;
             return match which {
-                Which::Lines if programs => many_lines(rt),
+                Which::Lines if ran.programs => many_lines(rt),
+                Which::Lines if ran.images => many_image_lines(rt),
                 Which::Lines => eprintln!(rt;
                     "arjuna: more than 100000 script lines, after event {event}"
                 ),

@@ -11,7 +11,7 @@ pub fn help(rt: &impl Eprint, gave_file: bool) -> io::Result<()> {
     usage(rt)?;
     if gave_file {
         eprintln!(rt;
-            "`replay`, `program`, `check` and `audit` take no file: the input comes on standard input, as in `arjuna replay < FILE`"
+            "`replay`, `program`, `check`, `image` and `audit` take no file: the input comes on standard input, as in `arjuna replay < FILE`"
         )?;
     }
     eprintln!(rt;
@@ -22,6 +22,9 @@ pub fn help(rt: &impl Eprint, gave_file: bool) -> io::Result<()> {
     )?;
     eprintln!(rt;
         "  arjuna program < PROGRAMS   runs client programs with retries by a seeded schedule, and writes what became of each"
+    )?;
+    eprintln!(rt;
+        "  arjuna image < SCRIPT    runs the script, stops all nodes, and writes what is left as text: header, journal, files"
     )?;
     eprintln!(rt;
         "  arjuna audit < IMAGE     audits a stopped run, saved as text: is it serial, are its disks clean and quiet, can a run go on from it"

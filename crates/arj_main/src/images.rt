@@ -1,4 +1,4 @@
-// What is said of an image that was audited.
+// What is said of images.
 use arj_auditing::{FILE_LINES, IMAGE_LINES};
 use std::io;
 
@@ -16,4 +16,11 @@ pub fn explain_audit(rt: &impl Eprint, status: u8) -> io::Result<()> {
             "arjuna: no run can go on from the image: standard output says what of it isn't so"
         ),
     }
+}
+
+/// Says that there are too many lines, of a script or of its image.
+pub fn many_image_lines(rt: &impl Eprint) -> io::Result<()> {
+    eprintln!(rt;
+        "arjuna: more than 100000 script lines; or more than {IMAGE_LINES} lines of an image, or {FILE_LINES} lines of its files"
+    )
 }

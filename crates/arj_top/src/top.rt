@@ -2,7 +2,8 @@
 ghost use Rattle.std.specs.Prelude.{◌≡◌, ◌≢◌, ◌≤◌, ◌⊎◌, ℕ, [], None};
 ghost use Rattle.arj_base.specs.Count.{Rose};
 ghost use Rattle.arj_checking.specs.Checks.{Checks, ends};
-ghost use Rattle.arj_command.specs.Command.{IsAudit, IsCheck, IsCommand, IsGenerate, IsProgram, IsReplay};
+ghost use Rattle.arj_command.specs.Command.{IsAudit, IsCheck, IsCommand, IsGenerate, IsImage, IsProgram, IsReplay};
+ghost use Rattle.arj_command.specs.Images.{ImageHeadline};
 ghost use Rattle.arj_command.specs.Outcome.{BankHeadline, Headline, Shown, around, said};
 ghost use Rattle.arj_command.specs.Below.{Audits, reading_of};
 ghost use Rattle.arj_command.specs.Programs.{ProgramsHeadline};
@@ -34,9 +35,9 @@ pub type Node = NodeCore<NodeParts<Store>>;
 /// why a line is bad in `why`.
 ///
 /// 0: the input was read to its end and every line was run, or client programs were run and what became of them was written, or the
-/// bank was run and its summary written. 1: the words aren't a command line. 2: a line isn't in the grammar. 3: a read failed. 4: a write failed. 5: memory was wanting; a node answers so too
+/// bank was run and its summary written, or the image of a script's run. 1: the words aren't a command line. 2: a line isn't in the grammar. 3: a read failed. 4: a write failed. 5: memory was wanting; a node answers so too
 /// where it can't spell a message, or restarts at the last incarnation that 32 bits count. 6: a limit was met. 7: a disk stopped while it
-/// was formatted, or while the bank's balances were read. 8: a journal that was checked can't be read as a run, or an answer in it differs;
+/// was formatted, or while the bank's balances or an image's files were read. 8: a journal that was checked can't be read as a run, or an answer in it differs;
 /// what was found of it is in `found`; or no run can go on from an image that was audited.
 pub fn arjuna<S: Source, K: Sink, D: Disk>(
     alloc: Global,
@@ -64,6 +65,9 @@ pub fn arjuna<S: Source, K: Sink, D: Disk>(
     // Client programs: what each status means, what was run of them and written, the same of their events, and that the calls of those
     // that committed are what their statements make alone.
     ensures programs { IsProgram words.now → ProgramsHeadline ⟦<Node as Core>⟧ D.Disk (reading_of ⟦<Store as ObjectStore>⟧) (around (outside (S.left source.old) (S.faults source.old) (K.taken sink.old) rack.old) (outside (S.left source.new) (S.faults source.new) (K.taken sink.new) rack.new)) (said result why.new journal.new world.new) }
+
+    // The image of a script's run: what each status means, what was run and stopped, what was written of it, and the same of its events.
+    ensures images { IsImage words.now → ImageHeadline ⟦<Node as Core>⟧ D.Disk (reading_of ⟦<Store as ObjectStore>⟧) (around (outside (S.left source.old) (S.faults source.old) (K.taken sink.old) rack.old) (outside (S.left source.new) (S.faults source.new) (K.taken sink.new) rack.new)) (said result why.new journal.new world.new) }
 
     // The check of a journal: what each status means, what was written of it, and that it touches nothing else.
     ensures checks { IsCheck words.now → Checks (ends (S.left source.old) (S.faults source.old) (K.taken sink.old)) (ends (S.left source.new) (S.faults source.new) (K.taken sink.new)) result found.new }

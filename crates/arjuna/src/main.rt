@@ -20,6 +20,7 @@ fn main(rt: HostRuntime) -> ExitCode {
         gave_file: false,
         programs: false,
         audits: false,
+        images: false,
         script: None,
         journal: Lines::new(alloc),
         why: None,
@@ -36,6 +37,7 @@ fn main(rt: HostRuntime) -> ExitCode {
         gave_file: left.gave_file,
         programs: left.programs,
         audits: left.audits,
+        images: left.images,
         script: left.script.as_ref().map(|script| script.as_slice()),
         journal: left.journal.as_slice(),
         why: left.why,
@@ -48,7 +50,7 @@ fn main(rt: HostRuntime) -> ExitCode {
 
 // Whether a word is a command that stands alone.
 fn takes_no_word(word: &str) -> bool {
-    word == "replay" || word == "program" || word == "check" || word == "audit"
+    word == "replay" || word == "program" || word == "check" || word == "audit" || word == "image"
 }
 
 // What the run leaves to be told of.
@@ -58,6 +60,7 @@ struct Left {
     gave_file: bool,
     programs: bool,
     audits: bool,
+    images: bool,
     script: Option<Bytes>,
     journal: Lines,
     why: Option<BadLine>,
@@ -75,6 +78,7 @@ fn run(rt: &HostRuntime, left: &mut Left) -> io::Result<u8>
     left.gave_file = words.len() == 2 && takes_no_word(words[0].as_str());
     left.programs = words.len() == 1 && words[0].as_str() == "program";
     left.audits = words.len() == 1 && words[0].as_str() == "audit";
+    left.images = words.len() == 1 && words[0].as_str() == "image";
     let input = StdSource::new(BufReader::new(alloc, rt.reader())?);
     let mut source = Remembering::new(alloc, input);
     let mut sink = StdSink::new(io::writer(rt));

@@ -1,7 +1,8 @@
 -- a script, a check, a bank, or no command
 use Rattle.std.proofs.Common.{arith, inl, inr, ap, refl}
 use Rattle.arj_bank.specs.Balances.{held_by, reader}
-use Rattle.arj_command.specs.Command.{IsAudit, IsCheck, IsGenerate, IsProgram, IsReplay}
+use Rattle.arj_command.specs.Command.{IsAudit, IsCheck, IsGenerate, IsImage, IsProgram, IsReplay}
+use Rattle.arj_command.proofs.Images.{not_image_audit, not_image_bank, not_image_check, not_image_program, not_image_replay}
 use Rattle.arj_command.proofs.Numbers.{generates_one, not_both, not_check, not_two}
 use Rattle.arj_command.proofs.Programs.{not_audit_bank, not_audit_check, not_audit_program, not_audit_replay, not_program_bank, not_program_check, not_program_replay}
 use Rattle.arj_command.proofs.Shows.{read_failed}
@@ -50,6 +51,10 @@ pub returns-in-Replay-clause-programs : goal.returns-in-Replay-clause-programs
 returns-in-Replay-clause-programs g c is =
     let says : IsReplay c.args.words.now = rw c.in-Replay.is at c.asked_for.ensures in absurd (not_program_replay c.args.words.now says is)
 
+pub returns-in-Replay-clause-saves : goal.returns-in-Replay-clause-saves
+returns-in-Replay-clause-saves g c is =
+    let says : IsReplay c.args.words.now = rw c.in-Replay.is at c.asked_for.ensures in absurd (not_image_replay c.args.words.now says is)
+
 -- ---- client programs
 
 pub returns-in-Program-clause-programs : goal.returns-in-Program-clause-programs
@@ -91,6 +96,10 @@ returns-in-Program-clause-audits_alone g c is =
 
 pub returns-in-Program-clause-read_fault : goal.returns-in-Program-clause-read_fault
 returns-in-Program-clause-read_fault g c three = c.run_programs.ensures.read_fault three
+
+pub returns-in-Program-clause-saves : goal.returns-in-Program-clause-saves
+returns-in-Program-clause-saves g c is =
+    let says : IsProgram c.args.words.now = rw c.in-Program.is at c.asked_for.ensures in absurd (not_image_program c.args.words.now says is)
 
 -- ---- a check
 
@@ -137,6 +146,10 @@ returns-in-Check-clause-read_fault g c three =
     let reads = checks.reads in
     reads.at_fault cut.0
 
+pub returns-in-Check-clause-saves : goal.returns-in-Check-clause-saves
+returns-in-Check-clause-saves g c is =
+    let says : IsCheck c.args.words.now = rw c.in-Check.is at c.asked_for.ensures in absurd (not_image_check c.args.words.now says is)
+
 -- ---- an audit
 
 pub returns-in-Audit-clause-audits : goal.returns-in-Audit-clause-audits
@@ -177,6 +190,53 @@ returns-in-Audit-clause-read_fault g c three =
     let cut = fault.0 in
     let reads = audits.reads in
     reads.at_fault cut.0
+
+pub returns-in-Audit-clause-saves : goal.returns-in-Audit-clause-saves
+returns-in-Audit-clause-saves g c is =
+    let says : IsAudit c.args.words.now = rw c.in-Audit.is at c.asked_for.ensures in absurd (not_image_audit c.args.words.now says is)
+
+-- ---- an image
+
+pub returns-in-Image-clause-saves : goal.returns-in-Image-clause-saves
+returns-in-Image-clause-saves g c is = c.imaged.ensures.saves
+
+pub returns-in-Image-clause-closes : goal.returns-in-Image-clause-closes
+returns-in-Image-clause-closes g c is _ _ =
+    let says : IsImage c.args.words.now = rw c.in-Image.is at c.asked_for.ensures in absurd (not_image_replay c.args.words.now is says)
+
+pub returns-in-Image-clause-short : goal.returns-in-Image-clause-short
+returns-in-Image-clause-short g c is _ =
+    let says : IsImage c.args.words.now = rw c.in-Image.is at c.asked_for.ensures in absurd (not_image_replay c.args.words.now is says)
+
+pub returns-in-Image-clause-generates : goal.returns-in-Image-clause-generates
+returns-in-Image-clause-generates g c n is =
+    let says : IsImage c.args.words.now = rw c.in-Image.is at c.asked_for.ensures in absurd (not_image_bank c.args.words.now _ is.1 says)
+
+pub returns-in-Image-clause-programs : goal.returns-in-Image-clause-programs
+returns-in-Image-clause-programs g c is =
+    let says : IsImage c.args.words.now = rw c.in-Image.is at c.asked_for.ensures in absurd (not_image_program c.args.words.now is says)
+
+pub returns-in-Image-clause-checks : goal.returns-in-Image-clause-checks
+returns-in-Image-clause-checks g c is =
+    let says : IsImage c.args.words.now = rw c.in-Image.is at c.asked_for.ensures in absurd (not_image_check c.args.words.now is says)
+
+pub returns-in-Image-clause-checks_alone : goal.returns-in-Image-clause-checks_alone
+returns-in-Image-clause-checks_alone g c is =
+    let says : IsImage c.args.words.now = rw c.in-Image.is at c.asked_for.ensures in absurd (not_image_check c.args.words.now is says)
+
+pub returns-in-Image-clause-audits : goal.returns-in-Image-clause-audits
+returns-in-Image-clause-audits g c is =
+    let says : IsImage c.args.words.now = rw c.in-Image.is at c.asked_for.ensures in absurd (not_image_audit c.args.words.now is says)
+
+pub returns-in-Image-clause-audits_alone : goal.returns-in-Image-clause-audits_alone
+returns-in-Image-clause-audits_alone g c is =
+    let says : IsImage c.args.words.now = rw c.in-Image.is at c.asked_for.ensures in absurd (not_image_audit c.args.words.now is says)
+
+pub returns-in-Image-clause-only_judged : goal.returns-in-Image-clause-only_judged
+returns-in-Image-clause-only_judged g c _ _ e = let s = c.imaged.ensures.statuses in omega (arith, e, s.0)
+
+pub returns-in-Image-clause-read_fault : goal.returns-in-Image-clause-read_fault
+returns-in-Image-clause-read_fault g c three = c.imaged.ensures.read_fault three
 
 -- ---- a bank
 
@@ -241,6 +301,11 @@ returns-in-Bank-clause-programs g c is =
     let says : IsGenerate c.args.words.now c.in-Bank.n =
     rw c.in-Bank.is at c.asked_for.ensures in absurd (not_program_bank c.args.words.now _ says.1 is)
 
+pub returns-in-Bank-clause-saves : goal.returns-in-Bank-clause-saves
+returns-in-Bank-clause-saves g c is =
+    let says : IsGenerate c.args.words.now c.in-Bank.n =
+    rw c.in-Bank.is at c.asked_for.ensures in absurd (not_image_bank c.args.words.now _ says.1 is)
+
 -- ---- no command
 
 pub returns-in-None-clause-programs : goal.returns-in-None-clause-programs
@@ -256,10 +321,13 @@ pub returns-in-None-clause-closes : goal.returns-in-None-clause-closes
 returns-in-None-clause-closes g c is _ _ = absurd ((rw c.in-None.is at c.asked_for.ensures) (inl is))
 
 pub returns-in-None-clause-generates : goal.returns-in-None-clause-generates
-returns-in-None-clause-generates g c n is = absurd ((rw c.in-None.is at c.asked_for.ensures) (inr (inr (inr (inr (n, is))))))
+returns-in-None-clause-generates g c n is = absurd ((rw c.in-None.is at c.asked_for.ensures) (inr (inr (inr (inr (inr (n, is)))))))
 
 pub returns-in-None-clause-audits : goal.returns-in-None-clause-audits
 returns-in-None-clause-audits g c is = absurd ((rw c.in-None.is at c.asked_for.ensures) (inr (inr (inr (inl is)))))
 
 pub returns-in-None-clause-audits_alone : goal.returns-in-None-clause-audits_alone
 returns-in-None-clause-audits_alone g c is = absurd ((rw c.in-None.is at c.asked_for.ensures) (inr (inr (inr (inl is)))))
+
+pub returns-in-None-clause-saves : goal.returns-in-None-clause-saves
+returns-in-None-clause-saves g c is = absurd ((rw c.in-None.is at c.asked_for.ensures) (inr (inr (inr (inr (inl is))))))

@@ -2,6 +2,7 @@
 use Rattle.arj_command.specs.Outcome.{said}
 use Rattle.arj_command.proofs.Banks.{bank_headline}
 use Rattle.arj_command.proofs.Causes.{laws_by}
+use Rattle.arj_command.proofs.Images.{image_headline}
 use Rattle.arj_command.proofs.Numbers.{le_7, not_check}
 use Rattle.arj_command.proofs.Programs.{not_audit_bank, programs_headline}
 use Rattle.arj_command.proofs.Shows.{headline, shown}
@@ -44,3 +45,15 @@ returns-clause-programs g c read says is =
     c.committed_programs_survive.ensures.runs c.committed_programs_run_alone.ensures.runs before after
     (said c.run_command-status.result c.run_command-status.new.why c.run_command-status.new.journal c.world_of.result)
     c.run_command-status.new.nodes (c.run_command-status.ensures.programs is) c.world_of.ensures
+
+pub returns-clause-images : goal.returns-clause-images
+returns-clause-images g c read says is =
+    let before = outside (g.S.Source.left c.args.source.now) (g.S.Source.faults c.args.source.now)
+    (g.K.Sink.taken c.args.sink.now) c.args.rack.now in
+    let after = outside (g.S.Source.left c.run_command-status.new.source) (g.S.Source.faults c.run_command-status.new.source)
+    (g.K.Sink.taken c.run_command-status.new.sink) c.run_command-status.new.rack in
+    image_headline g.C.Core g.D.Disk read (laws_by c.nodes_run_moves.ensures.runs c.journals_tell_their_causes.ensures.runs c.journals_are_in_form.ensures.runs)
+    (c.nodes_show_what_is_promised.ensures.runs read says) (c.nodes_show_what_is_promised.ensures.closes read says)
+    (c.nodes_show_what_is_promised.ensures.stops read says) before after
+    (said c.run_command-status.result c.run_command-status.new.why c.run_command-status.new.journal c.world_of.result)
+    c.run_command-status.new.nodes (c.run_command-status.ensures.saves is) c.world_of.ensures
