@@ -37,11 +37,10 @@ pub use bound::{bindings_have_causes, copies_have_causes, locks_lowered_have_cau
 pub use causes::{
     commits_are_called, commits_done_have_causes, denials_have_causes, ends_have_causes,
     exclusions_are_called, frame_lines_have_causes, giveups_have_causes, limits_have_causes,
-    locks_on_entries_are_free,
-    locks_on_objects_are_free, lost_commits_have_causes, openings_have_causes,
-    plain_refusals_have_causes, preparations_have_causes, quiesces_have_causes,
-    recoveries_have_causes, refused_commits_have_causes, restarts_have_causes, shows_have_causes,
-    stops_have_causes,
+    locks_on_entries_are_free, locks_on_objects_are_free, lost_commits_have_causes,
+    openings_have_causes, plain_refusals_have_causes, preparations_have_causes,
+    quiesces_have_causes, recoveries_have_causes, refused_commits_have_causes,
+    restarts_have_causes, shows_have_causes, stops_have_causes,
 };
 pub use form::journals_are_in_form;
 pub use messages::messages_can_be_spelled;

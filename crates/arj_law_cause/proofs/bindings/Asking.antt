@@ -213,7 +213,7 @@ module _ (N A : OfServer) (I : OfInc)
 
   activated_so : (x : ℕ) (kept : Option Known) (k : Known) (st : Words.ObjectState) (i : ℕ) (g : Goal) → IsKeptSo N A I x kept →
       IsAtSo N A I x g (AtActivate k st) → A (let u = st.uid in u.num) k.binding k.server × I (let u = st.uid in u.num) k.binding k.server
-          i →
+      i →
       IsMovedSo N A I x g (activated_by k i kept)
   activated_so x kept k st i (Include n) ko its active = absurd its
   activated_so x kept k st i (Run o) ko its active = by kept ko

@@ -486,14 +486,14 @@ module _ (hd : Header) (H : Seen → Type 0) (known : (k : ℕ) (d : Disk) (M : 
     (names : (k : ℕ) (d : Disk) (t : Parts) (M : Seen) → H (up k d t M) → Names (up k d t M))
     (asking : (k : ℕ) (d : Disk) (t : Parts) (M : Seen) → H (up k d t M) → (from : ℕ) (m : Message) →
     In (record { from = from; to = k; message = m }) M.sent → AskedSo (IsLined M.lines) (active_by M.lines) (met_in M.start M.lines) k
-        (asks m)) where
+    (asks m)) where
   own_copies : (k : ℕ) (d : Disk) (t : Parts) (M : Seen) → Copies (up k d t M) → HasCopies k t.server M.start M.lines
   own_copies k d t M h = h.1 k (record { number = k; disk = d; live = Some t }) t
       (λ i. cond (same_number k i) (Some (record { number = k; disk = d; live = Some t })) (M.nodes k)) refl
 
   message_due : (e k : ℕ) (d : Disk) (t v : Parts) (from : ℕ) (m : Message) (outs : List Effect) (M : Seen) →
       AskedSo (IsLined M.lines) (active_by M.lines) (met_in M.start M.lines) k (asks m) → AreLow M.start M.lines → HasCopies k t.server
-          M.start M.lines →
+      M.start M.lines →
       handle k d t from m ≡ Took v outs → Due k v M.start e outs M.lines
   message_due e k d t v from m outs M its low had is = by (asks m) refl its
     where

@@ -69,8 +69,11 @@ silent_both xs ys a b = runs.all_both IsSilent xs ys a b
 
 module _ (k : ℕ) (d : Disk) (t : Parts) (M : Seen) (good : IsGood (up k d t M)) (requests : AreAsked (up k d t M))
     (given : IsGiven M.start M.lines) (names : HasNames k t M.start M.lines) (had : HasCopies k t.server M.start M.lines)
-    (now : incarnation M.start M.lines k ≡ d.inc) (says : Says (up k d t M)) (from : ℕ) (m : Message) (posted : In (record { from = from;
-        to = k; message = m }) M.sent) where
+    (now : incarnation M.start M.lines k ≡ d.inc) (says : Says (up k d t M)) (from : ℕ) (m : Message) (posted : In (record {
+      from = from;
+      to = k;
+      message = m;
+    }) M.sent) where
   abbrev ls : List Line
   ls = M.lines
 
@@ -133,7 +136,7 @@ module _ (k : ℕ) (d : Disk) (t : Parts) (M : Seen) (good : IsGood (up k d t M)
   kinds : {R : Type 0} (a : Ask) (say : R → Reply) (o : Option R) →
       ((r : R) → o ≡ Some r → (ms : List Line) → Later ls ms → ReplySo (IsLined ms) (active_by ms) (met_in M.start ms) k a (say r)) →
       (q : Reply) → option_map say o ≡ Some q → (ms : List Line) → Later ls ms → ReplySo (IsLined ms) (active_by ms) (met_in M.start ms) k
-          a q
+      a q
   kinds a say None each q is ms l = none_is is
   kinds a say (Some r) each q is ms l = subst (ReplySo (IsLined ms) (active_by ms) (met_in M.start ms) k a) (some_is is) (each r refl ms l)
 
@@ -445,8 +448,11 @@ module _ (k : ℕ) (d : Disk) (t : Parts) (M : Seen) (good : IsGood (up k d t M)
     where
       by : (o : Option (Unit {0})) → By (by_reply (with_coord t r.part) r.outs o)
       by None = tt
-      by (Some u) = ((f.0, mine.1), λ e. all_claims k M.start base e ls r.outs (coord_posts k M.start base ls r.part r.outs truly f.1) ls
-          (later_same ls))
+      by (Some u) = (
+        (f.0, mine.1),
+        λ e. all_claims k M.start base e ls r.outs (coord_posts k M.start base ls r.part r.outs truly f.1) ls
+            (later_same ls),
+      )
 
   ends_left : (ack : Bool) (ends : List (Uid × End)) (o : Option (Uid × End)) → By (handle_ends k d t from ack ends o)
   ends_left ack ends None = (mine, λ e. tt)

@@ -273,8 +273,11 @@ module _ (hd : Header) (st : Start) (q : Past) (e : Event) (w : World) (shown : 
     given = subst (λ z. IsGiven z M.seen.lines) h.start known.1.2.0.1.1.0
 
     note_well : (from : ℕ) (hh : Head) (x : ℕ) (b : Binding) (i g : ℕ) (o : Naming) → t.naming ≡ Some o → (rep : Reply) →
-        AskedSo (IsLined M.seen.lines) (active_by M.seen.lines) (met_in (let S = M.seen in S.start) M.seen.lines) k (Some (hh, ask.Record
-            x b i g)) →
+        AskedSo (IsLined M.seen.lines) (active_by M.seen.lines) (met_in (let S = M.seen in S.start) M.seen.lines) k (Some (
+          hh,
+          ask.Record
+              x b i g,
+        )) →
         Well ((naming.note hh.path x b i g o).outs ++ Send from (response (asked_by hh) rep) ∷ []) M.seen.lines
     note_well from hh x b i g o has rep its = by (is_over hh.path o || not (is_some (at_number x o.objects))) (g == o.inc)
       where
@@ -311,7 +314,7 @@ module _ (hd : Header) (st : Start) (q : Past) (e : Event) (w : World) (shown : 
 
     message_well : (v : Parts) (from : ℕ) (m : Message) (outs : List Effect) →
         AskedSo (IsLined M.seen.lines) (active_by M.seen.lines) (met_in (let S = M.seen in S.start) M.seen.lines) k (asks m) → Still outs
-            → handle k d t from m ≡ Took v outs →
+        → handle k d t from m ≡ Took v outs →
         Well outs M.seen.lines
     message_well v from m outs its still is = asked (asks m) refl its
       where
@@ -380,7 +383,7 @@ module _ (hd : Header) (st : Start) (q : Past) (e : Event) (w : World) (shown : 
 
       by : (c : Bool) → is_restart e ≡ c → (k : ℕ) (d : Disk) (t v : Parts) (from : ℕ) (m : Message) (outs : List Effect) (M : Moment) →
           InIt (up k d t M) → Inside M → AskedSo (IsLined M.seen.lines) (active_by M.seen.lines) (met_in (let S = M.seen in S.start)
-              M.seen.lines) k (asks m) → Still outs →
+          M.seen.lines) k (asks m) → Still outs →
           MayTake M.past.event m → handle k d t from m ≡ Took v outs → Well outs M.seen.lines
       by true on k d t v from m outs M known h its still may is =
           let none = (may (ap moments.is_restart h.event ∙ restart_is e on)).0 in

@@ -230,8 +230,12 @@ module _ (k : ℕ) where
 
   module _ (st : Start) (base : List Post) (ls : List Line) where
     -- what asks nothing and answers nothing
-    pub plain_post : (to : ℕ) (m : Message) → asks m ≡ None → answers m ≡ None → PostSo st base ls (record { from = k; to = to; message =
-        m })
+    pub plain_post : (to : ℕ) (m : Message) → asks m ≡ None → answers m ≡ None → PostSo st base ls (record {
+      from = k;
+      to = to;
+      message =
+          m;
+    })
     plain_post to m no_ask no_reply = record {
       asking = subst (AskedSo (IsLined ls) (active_by ls) (met_in st ls) to) (sym no_ask) tt;
       answering = λ a r is. none_is (sym no_reply ∙ is);

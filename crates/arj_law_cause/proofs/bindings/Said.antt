@@ -143,7 +143,7 @@ module _ (hd : Header) (e k : ℕ) (d : Disk) (M : Seen) (says : Says (seen.down
       d.intents (λ e. all_map (PostedSo k M.start M.sent M.lines) (tell e.1.root true ((e.0, ending.Commit) ∷ [])) e.1.nodes
       (λ n. plain_post k M.start M.sent M.lines n _ refl refl)))) (asks_posts k M.start M.sent M.lines
       (uid_set (prepared_actions d.store ++ prepared_actions d.names)))) (all_map (PostedSo k M.start M.sent M.lines) (hello_to k (d.inc +
-          1))
+      1))
       (without_number k (numbers_to hd.nodes)) (λ w. plain_post k M.start M.sent M.lines w _ refl refl))
     where
       back : (o : Option Naming) → AllPosted k M.start M.sent M.lines (naming_back o)

@@ -172,7 +172,7 @@ few_changers : (lines : List Line) (x : ℕ) (first : List ℕ) (ts : List Top) 
 few_changers lines x first [] = omega arith
 few_changers lines x first (t ∷ ts) =
     by (same_list (listed_after lines x first t) first) (few_changers lines x first ts)
-        (few_changers lines x (listed_after lines x first t) ts)
+    (few_changers lines x (listed_after lines x first t) ts)
   where
     by : (b : Bool) → length (changers lines x first ts) ≤ length ts →
         length (changers lines x (listed_after lines x first t) ts) ≤ length ts →

@@ -89,7 +89,7 @@ module _ (from : ℕ) where
 
   naming_back : {R : Type 0} (t : Parts) (h : Head) (say : R → Reply) (f : Naming → Served Naming R) (o : Option Naming) →
       ((m : Naming) → AreAll is_naming_effect (f m).outs) → SendsBack from (outs_of (if_naming (λ m. served from h (with_naming t) say
-          (f m)) o))
+      (f m)) o))
   naming_back t h say f None own = silent
   naming_back t h say f (Some m) own = served_back h (with_naming t) say (f m) (naming_none (f m).outs (own m)).0
 
@@ -168,7 +168,7 @@ module _ (from : ℕ) where
   handled_back n d t (message.Confirm m) is =
       let h = m.head in
       naming_back t h Reply.Confirmed (confirm h.path m.objects m.excluded m.included d.names) t.naming
-          (confirm_own h.path m.objects m.excluded m.included d.names)
+      (confirm_own h.path m.objects m.excluded m.included d.names)
   handled_back n d t (message.Told m) is = by (last_end m.ends)
     where
       by : (o : Option (Uid × End)) → SendsBack from (outs_of (handle_ends n d t from m.ack m.ends o))

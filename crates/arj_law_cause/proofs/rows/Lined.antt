@@ -446,7 +446,7 @@ module _ (hd : Header) (st : Start) (before : List Line) (event : ℕ) where
       act = λ k d t i M is brings fresh asks free h. let did = does i d.intents t.coord in
           both k did.outs (with_coord t did.part) d (asks_now i t.coord M) (steps.act k d t i M is brings fresh asks free h.0)
           (acts_lined k d t M (works k d t M h.0) (locked k d t M h.0) (begins k d t M h.0) (same_lined (up k d t M) M refl refl h.1) i is
-              brings fresh);
+          brings fresh);
       begin = λ k d t l how parent M brings fresh new gives none h.
           let did = begin_action l how parent (parent_of parent t.coord) t.coord in
           both k did.outs (with_coord t did.part) d (given l (record { node = k; serial = is_serial how }) M)

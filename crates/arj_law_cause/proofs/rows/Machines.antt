@@ -210,8 +210,11 @@ module _ (hd : Header) (form : HeaderInForm hd) (k : ℕ) (d : Disk) (t : Parts)
           so = its_keeps z.0.old keeps_it
 
           named_old : IsNamedSo S (let q = z.0.old in q.binding) i
-          named_old = (ap (λ j. (let c = S.binding j in c.named)) z.0.same ∙ z.2.0, ap (λ j. (let c = S.binding j in c.incarnation))
-              z.0.same ∙ z.2.1)
+          named_old = (
+            ap (λ j. (let c = S.binding j in c.named)) z.0.same ∙ z.2.0,
+            ap (λ j. (let c = S.binding j in c.incarnation))
+                z.0.same ∙ z.2.1,
+          )
 
           by : (j : Option ℕ) → (let q = z.0.old in q.inc) ≡ j → (let q = z.0.old in q.inc) ≡ Some i
           by None none = let no_way : false ≡ true = sym (so.unnamed none).0 ∙ named_old.0 in absurd (cc no_way)
@@ -236,9 +239,17 @@ module _ (hd : Header) (form : HeaderInForm hd) (k : ℕ) (d : Disk) (t : Parts)
           × (asks request ≡ Some (head, asked)) × (asked_by head ≡ a) × ((include : Bool) (avoid : Binding) →
           asked ≡ ask.Bind x include avoid → (old : Known) (first : ℕ) → kept_at s t.coord ≡ Some old → old.inc ≡ Some first →
           binding_eq old.binding c ≡ true → first ≡ i)
-      live_named from p a c server i g stores there is = (z.head, z.ask, z.request, z.asked, z.is, z.of, λ include avoid asked. same_inc
-          include
-          avoid asked)
+      live_named from p a c server i g stores there is = (
+        z.head,
+        z.ask,
+        z.request,
+        z.asked,
+        z.is,
+        z.of,
+        λ include avoid asked. same_inc
+            include
+            avoid asked,
+      )
         where
           z : IsAnswerSeen (view_of f x begun k) m.more (record { from = from; to = k; message = p })
               (a, Reply.Bound (bound.Live c server i g stores)) S

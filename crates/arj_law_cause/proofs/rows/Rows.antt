@@ -485,7 +485,7 @@ module _ (hd : Header) (k : ℕ) (M : Moment) (h : Here) (header : h.header ≡ 
           r ≡ Reply.Activated i → IsOtherInc kept x.binding i n v → Fits n v
       activated_so x u i o n v goal at is (old, first, keeps, same, its, has, off, two) =
           subst (λ y. Fits n y) (sym two) (subst (λ m. Fits m (two_incs first i)) (sym (its ∙ server ∙ its_from)) (by (nat_lt i first)
-              refl))
+          refl))
         where
           N : ℕ → Binding → ℕ → Type 0
           N = IsLined M.seen.lines
@@ -606,7 +606,7 @@ module _ (hd : Header) (k : ℕ) (M : Moment) (h : Here) (header : h.header ≡ 
       noted_so x i o n v goal at is one = subst (λ z. Fits n z) (sym so.1)
           (partly n (what.Inc x.grant (incarnation M.seen.start D.before 1)) o goal (naming_tells n told_it)
           (λ j. eq-eqb n 1 one j && (told_it j && (lower x.grant (incarnation M.seen.start D.before 1) so.2 j && shown_at h q 1 s.x
-              D.before D.after (lines ∙ D.are) D.late
+          D.before D.after (lines ∙ D.are) D.late
           (incarnation M.seen.start D.before 1) (ap (λ z. incarnation z D.before 1) start) j))))
         where
           so : (from ≡ 1) × (v ≡ what.Inc x.grant (incarnation M.seen.start D.before 1))
@@ -719,7 +719,7 @@ module _ (hd : Header) (k : ℕ) (M : Moment) (h : Here) (header : h.header ≡ 
           where
             by : (o : Option (Placed (List Act))) → called_at T.before v ≡ o →
                 holds_in (λ (z : Placed (List Act)). may_pend from v (take z.at T.before) false (drop z.at T.before)) o ≡ true →
-                    IsCalledAt T.before v
+                IsCalledAt T.before v
             by None none e = absurd (cc e)
             by (Some z) some e = (z, some)
 
@@ -746,7 +746,7 @@ module _ (hd : Header) (k : ℕ) (M : Moment) (h : Here) (header : h.header ≡ 
     conflict_so form early off v m n (ByStore x y rest at is write one) =
         let its : n ≡ from = one ∙ ap (λ z. node_at z) (sym at) ∙ T.node in
         by (conflict_caused h (name w.label) v m n) (ap (came_from_store h (name w.label) v m) its ∙ store_so form early off x y rest v m
-            at is write)
+        at is write)
       where
         by : (b : Bool) → came_from_store h (name w.label) v m n ≡ true → (b || came_from_store h (name w.label) v m n) ≡ true
         by true it = refl

@@ -413,7 +413,7 @@ module _ (hd : Header) (k : ℕ) (d : Disk) (t : Parts) (M : Moment) (W : Works 
           let z = q.made in
           let c = call.1 in
           z.behind c.asking c.there (c.act ∙ sym (asker requests ans.0 ans.1 ans.2 q.request (W.known.1 q.request q.posted) q.asking
-              q.from))
+          q.from))
           (low (req_is requests ans.0 ans.1 ans.2 q.request (W.known.1 q.request q.posted) q.asking q.from) c.first)
         where
           low : {m n : ℕ} → m ≡ w.req → n ≤ w.req → n ≤ m
@@ -471,11 +471,15 @@ module _ (hd : Header) (k : ℕ) (d : Disk) (t : Parts) (M : Moment) (W : Works 
         let l = locked early in
         let within : seen.Within M.seen.sent l.more = λ p there. l.within p (W.reached.1 p there) in
         let z = Machines.live_named hd W.form k d t M.seen W.reached.0 W.reached.2 early s.x (locked early) u w s o asking.branch found is
-            refl
+        refl
         goal asking.found asking.path from m a c server i g stores (within (post from k m) sent_it) (answer ∙ (λ j. Some (a, live j))) in
-        let step : IsOfStep s from z.0 z.1 = of_step (l.more, within, Machines.asked_known hd W.form k d t M.seen W.reached.0 W.reached.2
-            early
-        s.x (locked early)) z.0 z.1 z.5 (post k from z.2) z.3 z.4 refl in
+        let step : IsOfStep s from z.0 z.1 = of_step (
+          l.more,
+          within,
+          Machines.asked_known hd W.form k d t M.seen W.reached.0 W.reached.2
+              early
+              s.x (locked early),
+        ) z.0 z.1 z.5 (post k from z.2) z.3 z.4 refl in
         z.6 (is_include s.goal) avoid (bind_is z.1 s.x (is_include s.goal) avoid (step.same ∙ (λ j. ask_at s.x s.goal [] (at j)))) old first
         keeps has same
 
