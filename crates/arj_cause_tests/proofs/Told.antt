@@ -22,7 +22,7 @@ use Rattle.arj_law_cause.specs.kinds.Kinds.{is_lock_lowered, is_lost_commit, is_
 use Rattle.arj_law_cause.specs.kinds.Kinds.{is_quiet, is_sent}
 use Rattle.arj_law_cause.specs.kinds.Kinds.{is_up, is_void}
 use Rattle.arj_law_cause.specs.kinds.Rows.{row, tested}
-use Rattle.arj_law_cause.specs.kinds.Tests.{is_granted_so, is_committed_so, is_excluded_so, is_old_so}
+use Rattle.arj_law_cause.specs.kinds.Tests.{is_committed_so, is_excluded_so, is_old_so}
 use Rattle.arj_law_cause.specs.rows.Lines.{answer_fits}
 use Rattle.arj_law_cause.specs.waits.replies.Ends.{RepliesStep}
 use Rattle.arj_cause_tests.proofs.Words.{Run, after, b, end_from, instead, l, of_other_event, run, u, without}
@@ -172,7 +172,7 @@ granted_restarting = refl
 
 -- `locked`: before a call was accepted, at another node, against another top's lock, to an action that is no top, and again
 abbrev locked : Run → List ℕ
-locked = failing (tested is_granted_so (λ h. is_granted_entry))
+locked = failing_of is_granted_entry
 
 locked_so : locked nested_abort ++ (locked conflict ++ (locked rebinding ++ (locked naming_stopped ++ locked exclusion))) ≡ []
 locked_so = refl

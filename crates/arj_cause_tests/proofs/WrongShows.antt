@@ -15,7 +15,6 @@ use Rattle.arj_model.specs.Past.{Past, at_start, next}
 use Rattle.arj_start.specs.Start.{Start, fresh}
 use Rattle.arj_law_cause.specs.kinds.Kinds.{is_abort_done, is_copy_shown, is_entry_shown, is_granted_entry, is_node_given_up, is_told}
 use Rattle.arj_law_cause.specs.kinds.Rows.{tested}
-use Rattle.arj_law_cause.specs.kinds.Tests.{is_granted_so}
 use Rattle.arj_cause_tests.proofs.Words.{Run, Wrote, after, instead, l, lacking, nodes, object_line, run, u, without}
 use Rattle.arj_cause_tests.proofs.Worked.{conflict, exclusion, lost_lock, naming_stopped, nested_abort, no_store_left, rebinding}
 use Rattle.arj_cause_tests.proofs.Rarer.{conflict_pending}
@@ -50,9 +49,9 @@ tolds = failing has_cause is_told fresh
 abbrev givens : Run → List ℕ
 givens = failing has_cause is_node_given_up fresh
 
--- locks on entries that aren't granted so
+-- locks on entries that are granted without their cause
 abbrev locked : Run → List ℕ
-locked = failing is_granted_so is_granted_entry fresh
+locked = failing has_cause is_granted_entry fresh
 
 -- aborts that are done without their cause
 abbrev undone : Run → List ℕ
@@ -189,6 +188,13 @@ back_elsewhere = refl
 
 back_against : locked (after 49 (body.Granted 1 (u 3 1 1) (u 0 1 1) Exclude ∷ []) naming_stopped) ≡ 50 ∷ []
 back_against = refl
+
+-- on an entry that it neither used nor excluded a store of, and to nobody
+back_unused : locked (instead 49 (body.Granted 1 (u 2 1 1) (u 0 1 2) Exclude) naming_stopped) ≡ 49 ∷ []
+back_unused = refl
+
+back_unbegun : locked (instead 49 (body.Granted 1 (u 2 1 2) (u 0 1 1) Exclude) naming_stopped) ≡ 49 ∷ []
+back_unbegun = refl
 
 undone_so : undone nested_abort ++ (undone conflict ++ (undone exclusion ++ undone rebinding)) ≡ []
 undone_so = refl

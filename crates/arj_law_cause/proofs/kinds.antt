@@ -47,6 +47,7 @@ pub mod Wanted
 pub mod Others
 pub mod Granted
 pub mod Tops
+pub mod Entered
 pub mod Checks
 pub mod Back
 pub mod Entries

@@ -3,4 +3,5 @@ pub mod Assembled
 pub mod Joined
 pub mod Telling
 pub mod Together
+pub mod Locks
 pub mod Every

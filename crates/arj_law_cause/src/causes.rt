@@ -1,7 +1,7 @@
 // Rows of causes: lines of the world, and what nodes do.
 ghost use Rattle.arj_law_cause.specs.kinds.Kinds.{is_abort_done, is_armed, is_bare_abort, is_commit_done, is_committed, is_copy_shown, is_denial, is_dropped, is_entry_shown, is_excluded, is_found, is_got, is_granted_object, is_granted_entry, is_halted, is_limit, is_listed_abort, is_lost_commit, is_met_abort, is_node_given_up, is_old_abort, is_opening, is_plain_refusal, is_prepared, is_quiet, is_sent, is_told, is_up, is_void};
 ghost use Rattle.arj_law_cause.specs.kinds.Rows.{RowHolds, RowHoldsWhere, TestHolds};
-ghost use Rattle.arj_law_cause.specs.kinds.Tests.{is_granted_so, is_committed_so, is_excluded_so, is_old_so};
+ghost use Rattle.arj_law_cause.specs.kinds.Tests.{is_committed_so, is_excluded_so, is_old_so};
 
 /// In every run in form, wherever it begins and wherever disks stop, each line of a frame has its cause by the events and the lines before
 /// it, row by row: a frame that is sent has the next number and goes from a node that is up, or from nobody where the script hands over
@@ -126,12 +126,12 @@ pub fn preparations_have_causes()
     ensures prepared { RowHolds is_prepared }
 {}
 
-/// In every such run, but in a restart, a lock on an entry is granted by naming, to a top that has no such lock by the table before the line,
-/// and whose path meets none. One for an exclusion is so to a top that excluded a store of the object; for any other a call or an include of
-/// the object, of the top or of an action below it, was accepted. In a restart naming gives a lock back to who has no such lock by the table
-/// before the line, and meets none there. It does nothing when it runs.
+/// In every such run a lock on an entry is granted by naming, to a top that has no such lock by the table before the line, and whose path
+/// meets none. One for an exclusion is so to a top that excluded a store of the object; for any other a call or an include of the object,
+/// of the top or of an action below it, was accepted. In a restart naming gives a lock back, of either kind, to a top of which one or the
+/// other is so. It does nothing when it runs.
 pub fn locks_on_entries_are_free()
-    ensures locked { TestHolds is_granted_so is_granted_entry }
+    ensures locked { RowHolds is_granted_entry }
 {}
 
 /// In every such run a nested action commits in the event that commits it, and any other action while its commit is under way by the lines

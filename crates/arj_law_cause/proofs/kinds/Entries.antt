@@ -1,22 +1,17 @@
 -- The row of locks on entries: a restart gives them back (`Back`); in an event that is none naming grants one to a top, which has no such
 -- lock, and whose path meets none; for what was asked of it or below it, or for stores that it excluded.
 use Rattle.arj_law_parts.proofs.Words
-use Words.{⊤, ◌≡◌, ◌∙◌, ◌==◌, ◌&&◌, ◌||◌, ◌++◌, ◌+◌, not, ℕ, Bool, true, false, cond, filter, find, if◌then◌else◌, List, []}
-use Words.{◌∷◌, length}
-use Words.{inl, inr, ⊎_elim, ◌⊎◌, actor, grant_row, in_filter, in_map, put_number, rows_by, Post, Option, Some, None}
-use Words.{refl, sym, ap, subst, and_parts, eqb-true, eq-eqb, list_any, nat_le, option_map, In, in_from, uid_eq}
-use Words.{uid_same, entry, mode_code, is_row_of, is_against, first_conflict, is_serial, last_uid, top_of, top_path, tops_of}
-use Words.{object}
-use Words.{Ask, Binding, Body, BoundReply, Entry, Event, Head, Header, Line, Message, Mode, ObjectState, Path, Reply, Row, Start, Uid, asks}
-use Words.{asked_by, response, Disk, Do, Effect, Pair, Prep, Say, Send, Served, void, Counted, Live, Made, Named, bind_call, bind_made}
-use Words.{bind_named, conflict_on, include_asked, is_granted, is_over, listed_entry, live_above, live_asked, lock_lines, made_above}
-use Words.{make_asked}
-use Words.{at_number, at_uid, either, is_on, is_prepared, on_counted, prepare_answer, reply, confirm, Naming, Parts, Took}
-use Words.{handle, handle_ask, if_naming, sends_answer, serve, served, with_naming, AreAll, is_coord_effect, is_coord_line}
-use Words.{is_server_effect}
-use Words.{is_server_line, invoke_own, acts as does, acts_own, again_all, again_own, all_both, begin_action, holders, map, numbered}
-use Words.{parent_of}
-use Words.{query_about, restart_outs, tick_outs, tolds_again, tolds_again_own, Seen, World, name}
+use Words.{⊤, ◌≡◌, ◌∙◌, ◌==◌, ◌&&◌, ◌||◌, ◌++◌, ◌+◌, not, ℕ, Bool, true, false, cond, filter, find, if◌then◌else◌, List, [], ◌∷◌, length}
+use Words.{inl, inr, ⊎_elim, ◌⊎◌, grant_row, in_filter, in_map, put_number, rows_by, Post, Option, Some, None, refl, sym, ap, subst}
+use Words.{and_parts, eqb-true, eq-eqb, list_any, nat_le, option_map, In, in_from, uid_eq, uid_same, entry, mode_code, is_row_of}
+use Words.{is_against, first_conflict, last_uid, top_of, top_path, tops_of, object, Ask, Binding, Body, BoundReply, Entry, Event, Head}
+use Words.{Header, Line, Message, Mode, ObjectState, Path, Reply, Row, Start, Uid, asks, asked_by, response, Disk, Do, Effect, Pair, Prep}
+use Words.{Say, Send, Served, void, Counted, Live, Made, Named, bind_call, bind_made, bind_named, conflict_on, include_asked, is_granted}
+use Words.{is_over, listed_entry, live_above, live_asked, lock_lines, made_above, make_asked, at_number, at_uid, either, is_on, is_prepared}
+use Words.{on_counted, prepare_answer, reply, confirm, Naming, Parts, Took, handle, handle_ask, if_naming, sends_answer, serve, served}
+use Words.{with_naming, AreAll, is_coord_effect, is_coord_line, is_server_effect, is_server_line, invoke_own, acts as does, acts_own}
+use Words.{again_all, again_own, all_both, begin_action, holders, map, numbered, parent_of, query_about, restart_outs, tick_outs}
+use Words.{tolds_again, tolds_again_own, Seen, World, name}
 use Words.ask
 use Words.body
 use Words.input
@@ -33,17 +28,15 @@ use Rattle.arj_law_parts.specs.moves.Seen.{is_quiet_line}
 use Rattle.arj_law_parts.specs.moves.Seen as seen
 use Rattle.arj_law_parts.specs.moves.With.{KeepsAll}
 use Rattle.arj_law_parts.specs.parts.Messages.{FitsAsked, IsAsker}
-use Rattle.arj_law_promise.specs.settling.Prepared.{AsksForItself}
-use Rattle.arj_law_runs.proofs.journal.{Closed.one_act, Models.its_sound}
+use Rattle.arj_law_runs.proofs.journal.{Models.its_sound}
 use Rattle.arj_law_runs.proofs.kept.Walked.{same_number}
 use Rattle.arj_law_runs.specs.follow.Frames.{run_events}
 use Rattle.arj_law_runs.specs.journal.Book.{new_book}
 use Rattle.arj_law_runs.specs.journal.Right.{AreRight}
 use Rattle.arj_law_serial.proofs.Terms
-use Terms.{Act, AreAlike, acts, acts_more, named_locks, path, path_by, rows_on, uids, up_of, act_of}
-use Terms.{holders_in}
-use Rattle.arj_law_serial.proofs.holding.{Events.IsShown, Lines.own_line, Sorts.is_free}
-use Rattle.arj_law_serial.proofs.holding.{Running.Showing, Running.alike_of, Writes.none_starts}
+use Terms.{Act, AreAlike, acts, acts_more, named_locks, path, path_by, rows_on, uids, up_of, holders_in}
+use Rattle.arj_law_serial.proofs.holding.{Events.IsShown, Lines.own_line, Sorts.is_free, Running.Showing, Running.alike_of}
+use Rattle.arj_law_serial.proofs.holding.{Writes.none_starts}
 use Rattle.arj_law_serial.proofs.holding.Says as saying
 use Rattle.arj_law_serial.proofs.order.Paths.{found}
 use Rattle.arj_law_serial.proofs.tables.Holders.{path_fits}
@@ -52,7 +45,7 @@ use Rattle.arj_model.specs.CauseAnswers.{has_lock}
 use Rattle.arj_model.specs.CauseLocks.{asking_path, entry_asked, granted_caused, is_restart, uses_below}
 use Rattle.arj_model.specs.CausePends.{has_some}
 use Rattle.arj_model.specs.Last.{is_among, leaves_of}
-use Rattle.arj_model.specs.CauseSpans.{Here, holds_in, is_top_in, same_mode, top_uids}
+use Rattle.arj_model.specs.CauseSpans.{Here, act_by, holds_in, is_top_in, same_mode, top_uids}
 use Rattle.arj_model.specs.Follows.{Runs}
 use Rattle.arj_model.specs.Past.{Past, asked_of, at_start, label_of}
 use Rattle.arj_model.specs.Refusals.{holds_of, is_ask_by}
@@ -71,9 +64,11 @@ use Rattle.arj_law_cause.proofs.bindings.Counted.{IsCounted, KnowsNames, names_k
 use Rattle.arj_law_cause.proofs.bindings.Every.{keeps_both, knows_with}
 use Rattle.arj_law_cause.proofs.bindings.Tabled as tabled
 use Rattle.arj_law_cause.proofs.kinds.Anew.{IsAnew}
-use Rattle.arj_law_cause.proofs.kinds.Back.{restart_well}
+use Rattle.arj_law_cause.proofs.kinds.Back.{is_for, is_given_back, is_granted_by, restart_well}
 use Rattle.arj_law_cause.proofs.kinds.Regained.{disk_entries}
-use Rattle.arj_law_cause.proofs.kinds.Asking.{AskSo, AsksAreSo, Excludes, Stood, asking_keep, leaves_later}
+use Rattle.arj_law_cause.proofs.kinds.Asking.{leaves_later}
+use Rattle.arj_law_cause.proofs.kinds.Entered as entered
+use Rattle.arj_law_cause.proofs.kinds.Entered.{Entered, IsConfirmOf, confirm_of, disk_for, entered_keep}
 use Rattle.arj_law_cause.proofs.kinds.Checks.{asked_granted, either_none, none_each, none_mapped, some_of}
 use Rattle.arj_law_cause.proofs.kinds.Committed.{act_found}
 use Rattle.arj_law_cause.proofs.kinds.Ended.{Known, known_all}
@@ -87,14 +82,13 @@ use Rattle.arj_law_cause.proofs.kinds.Served.{fewer_along, restart_is, shown_kno
 use Rattle.arj_law_cause.proofs.kinds.Tops.{HasTopPath, IsTopBy, is_top_by, top_plain, top_there}
 use Rattle.arj_law_cause.proofs.kinds.Walks as walks
 use Rattle.arj_law_cause.proofs.kinds.Wanted.{AreWanted, Base, IsWanted, wanted_all}
-use Rattle.arj_law_cause.proofs.rows.Holders.{alike_to, one_passes}
+use Rattle.arj_law_cause.proofs.rows.Holders.{one_passes}
 use Rattle.arj_law_cause.proofs.rows.Meeting.{find_some, on_object}
 use Rattle.arj_law_cause.proofs.rows.Rows.{used_is}
 use Rattle.arj_law_cause.proofs.rows.Taking.{AskedPaths}
 use Rattle.arj_law_cause.proofs.waits.waiting.Lists.{any_in}
 use Rattle.arj_law_cause.specs.kinds.Kinds.{is_granted_entry}
 use Rattle.arj_law_cause.specs.kinds.Rows.{TestHolds, TestedStep, tested}
-use Rattle.arj_law_cause.specs.kinds.Tests.{is_given_back, is_granted_so}
 
 -- ---- lines
 
@@ -105,7 +99,7 @@ of b = is_granted_entry b
 
 abbrev passes : Here → Body → Bool
 passes h (body.Up n i) = is_restart h.event
-passes h b = is_granted_so h b
+passes h b = is_granted_by h b
 
 quiet : (b : Body) → is_quiet_line b ≡ true → of b ≡ false
 quiet (body.Granted n u o m) is = absurd (cc is)
@@ -154,12 +148,12 @@ ups h n i is = is
 
 -- of what was asked, where naming is, and of what naming is asked
 abbrev Extra : Header → Moment → Type 0
-Extra hd M = ((Base M × AreWanted M) × Wide KnowsNames M) × Wide (λ S. Stood S × AsksAreSo S) M
+Extra hd M = ((Base M × AreWanted M) × Wide KnowsNames M) × Wide Entered M
 
 extra_keep : (hd : Header) → KeepsAll hd (Extra hd)
-extra_keep hd = keeps_both hd (λ M. (Base M × AreWanted M) × Wide KnowsNames M) (Wide (λ S. Stood S × AsksAreSo S))
+extra_keep hd = keeps_both hd (λ M. (Base M × AreWanted M) × Wide KnowsNames M) (Wide Entered)
     (keeps_both hd (λ M. Base M × AreWanted M) (Wide KnowsNames) (wanted_all hd) (wide_all hd KnowsNames (names_keep hd)))
-    (wide_all hd (λ S. Stood S × AsksAreSo S) (asking_keep hd))
+    (wide_all hd Entered (entered_keep hd))
 
 -- ---- an event
 
@@ -190,7 +184,8 @@ module _ (hd : Header) (st : Start) (q : Past) (e : Event) (w : World) (shown : 
     line_passes : (m : Mode) → entry_asked (at ms) 1 t.top x m ≡ true → first_conflict (top_path p) (entry x) m rows ≡ None →
         is_granted (entry x) (last_uid (top_path p)) m rows ≡ false →
         tested passes (λ g. of) (at ms) (body.Granted 1 (last_uid (top_path p)) (entry x) m) ≡ true
-    line_passes m asked free new = λ i. if off i then is_given_back (at ms) 1 (last_uid (top_path p)) (entry x) m else caused i
+    line_passes m asked free new = λ i. if off i then is_given_back (at ms) 1 (last_uid (top_path p)) (entry x) m
+        && holds_in (λ a. is_for ms a x) (act_by ms (last_uid (top_path p))) else caused i
       where
         u : Uid
         u = last_uid (top_path p)
@@ -632,47 +627,8 @@ module _ (hd : Header) (st : Start) (q : Past) (e : Event) (w : World) (shown : 
             P : Post
             P = record { from = from; to = k; message = m }
 
-            stood : Stood (seen.with_sent known.1.1.0 (let N = up k d t M in N.seen))
-            stood = known.1.1.2.0
-
-            own : AsksForItself stood.0.0.0.0.0.1.0 from (Some (h, ask.Confirm g x i))
-            own = subst (AsksForItself stood.0.0.0.0.0.1.0 from) asked
-                (let z = stood.0.0.0.0.0.1 in (let y = z.2.1 in y.sent P (known.1.1.1 P there)))
-
-            so : Excludes M.seen.lines (actor h.path) x
-            so = (subst (AskSo M.seen.lines) asked (known.1.1.2.1 P (known.1.1.1 P there))).1
-
-            is_top : actor h.path ≡ top_of h.path
-            is_top = let o = own (top_of h.path) refl in o.same
-
-            asker : IsAsker base.2.0 h.path
-            asker = subst (FitsAsked base.2.0 m) asked fits
-
-            its : (a : Act) × In a (acts M.seen.lines) × (a.uid ≡ act_of asker.0) × (a.kind ≡ (let b = asker.0 in b.kind))
-            its = alike_to base.2.0 (acts M.seen.lines) alike asker.0 (in_from asker.0 base.2.0 asker.1)
-
-            unserial : (z : Words.Kind) → (z ≡ Words.kind.Serial → ⊥) → is_serial z ≡ false
-            unserial Words.kind.Serial other = absurd (other refl)
-            unserial Words.kind.Top other = refl
-            unserial Words.kind.Nested other = refl
-            unserial Words.kind.Constituent other = refl
-            unserial Words.kind.Independent other = refl
-
-            plain : is_serial (let a = its.0 in a.kind) ≡ false
-            plain = ap is_serial its.3 ∙ unserial (let b = asker.0 in b.kind) asker.3
-
-            uid : (let a = its.0 in a.uid) ≡ top_of h.path
-            uid = its.2 ∙ ap actor asker.2 ∙ is_top
-
-            top : IsTopBy M.seen.lines h.path
-            top = is_top_by M.seen.lines right h.path (path_facts h.path asker) its.0 its.1 plain uid
-
-            left : (e : ℕ × ℕ) → In e x → is_among (leaves_of M.seen.lines (let a = top.top in a.id) e.0) e.1 ≡ true
-            left e i =
-                let z = so e i in
-                let same : z.0 ≡ top.top = one_act (acts M.seen.lines) (let s = its_sound M.seen.lines right in s.distinct) z.0 top.top z.1
-                top.there (z.2 ∙ is_top ∙ sym top.uid) in
-                subst (λ (a : Act). is_among (leaves_of M.seen.lines a.id e.0) e.1 ≡ true) same z.3
+            its : IsConfirmOf M.seen.lines h.path x i
+            its = confirm_of (seen.with_sent known.1.1.0 (let N = up k d t M in N.seen)) known.1.1.2.0 P h g x i (known.1.1.1 P there) asked
 
             named : (o : Option Naming) → t.naming ≡ o → Well (saying.outs_of (if_naming (λ n. served from h (with_naming t) Reply.Confirmed
                 (confirm h.path g x i d.names n)) o)) M.seen.lines
@@ -695,8 +651,8 @@ module _ (hd : Header) (st : Start) (q : Past) (e : Event) (w : World) (shown : 
                     Reply.Confirmed r)))
                     M.seen.lines
                 by_reply None = tt
-                by_reply (Some r) = confirm_well off h.path M.seen.lines right top (path_facts h.path asker) start
-                    (Send from (response (asked_by h) (Reply.Confirmed r)) ∷ []) refl g x i d.names n shows left
+                by_reply (Some r) = confirm_well off h.path M.seen.lines right its.top its.fits start
+                    (Send from (response (asked_by h) (Reply.Confirmed r)) ∷ []) refl g x i d.names n shows its.left
 
         by : (o : Option (Head × Ask)) → asks m ≡ o → Well (saying.outs_of (handle_ask k d t from m o)) M.seen.lines
         by None asked = others_well (saying.outs_of (handle_ask k d t from m None)) M.seen.lines
@@ -725,9 +681,9 @@ module _ (hd : Header) (st : Start) (q : Past) (e : Event) (w : World) (shown : 
     where
       -- a lock that is given back
       back_passes : is_restart e ≡ true → (ms : List Line) (u o : Uid) (m : Mode) → is_given_back (at ms) 1 u o m ≡ true →
-          tested passes (λ g. of) (at ms) (body.Granted 1 u o m) ≡ true
-      back_passes restarts ms u o m given =
-          (λ i. not (of (body.Granted 1 u o m)) || (if restarts i then given i else granted_caused (at ms) 1 u o m))
+          holds_in (λ a. is_for ms a o.num) (act_by ms u) ≡ true → tested passes (λ g. of) (at ms) (body.Granted 1 u o m) ≡ true
+      back_passes restarts ms u o m given its =
+          (λ i. not (of (body.Granted 1 u o m)) || (if restarts i then given i && its i else granted_caused (at ms) 1 u o m))
           ∙ later (not (of (body.Granted 1 u o m)))
         where
           later : (b : Bool) → (b || true) ≡ true
@@ -762,7 +718,9 @@ module _ (hd : Header) (st : Start) (q : Past) (e : Event) (w : World) (shown : 
           subst (λ j. Well (restart_outs hd j (d.inc + 1) d) M.seen.lines) (sym (eqb-true k 1 one))
           (restart_well passes hd of quiet no_halt st q e (back_passes restarts)
           (λ ms b is. λ i. free_other b is i || passes (at ms) b) (d.inc + 1) d
-          (disk_entries hd (length w.lines) Number k d M known.0.1.0) M.seen.lines restarts)
+          (disk_entries hd (length w.lines) Number k d M known.0.1.0) M.seen.lines
+          (entered.right (seen.with_sent known.1.1.0 (let N = moments.down k d M in N.seen)) known.1.1.2.0)
+          (disk_for k d None (seen.with_sent known.1.1.0 M.seen) known.1.1.2.1) restarts)
 
       by : (b : Bool) → is_restart e ≡ b → (k : ℕ) (d : Disk) (t v : Parts) (from : ℕ) (m : Message) (outs : List Effect) (M : Moment) →
           InIt (up k d t M) → Inside M → seen.In (record { from = from; to = k; message = m }) M.seen.sent → MayTake M.past.event m →
@@ -779,11 +737,11 @@ its_of : (b : Body) → is_granted_entry b ≡ true → of b ≡ true
 its_of (body.Up n i) is = absurd (cc is)
 its_of b is = is
 
-to_test : (h : Here) (b : Body) → is_granted_entry b ≡ true → ⊤ → passes h b ≡ true → is_granted_so h b ≡ true
+to_test : (h : Here) (b : Body) → is_granted_entry b ≡ true → ⊤ → passes h b ≡ true → is_granted_by h b ≡ true
 to_test h (body.Up n i) its known is = absurd (cc its)
 to_test h b its known is = is
 
-pub granted_entry_row : TestHolds is_granted_so is_granted_entry
+pub granted_entry_row : TestHolds is_granted_by is_granted_entry
 granted_entry_row hd r form =
     let lines = journal_by hd r in
     let runs : Runs (TestedStep passes (λ h. of) hd) r.start (run_events hd r) lines =
@@ -791,7 +749,7 @@ granted_entry_row hd r form =
     (keeps_both hd (Known hd) (Extra hd) (known_all hd) (extra_keep hd))
     (knows_with hd (Known hd) (Extra hd) (extra_keep hd) (shown_knows hd))
     (λ st q e w between lines count. well hd st q e w between lines count) r form in
-    tested_row (λ ls b. ⊤) is_granted_entry passes is_granted_so to_test lines (λ before line behind is. tt) hd r.start (run_events hd r) (
+    tested_row (λ ls b. ⊤) is_granted_entry passes is_granted_by to_test lines (λ before line behind is. tt) hd r.start (run_events hd r) (
       runs.0,
       runs.1,
       fewer_along passes of is_granted_entry its_of hd (run_events hd r) (at_start r.start) runs.0 runs.2,

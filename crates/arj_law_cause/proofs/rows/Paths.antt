@@ -41,7 +41,7 @@ label_path (x ∷ xs) distinct l a named = by (bytes_eq x.label l) named (label_
             (ap (λ w. uid_eq w x.uid) (sym (uid_is x.uid a.uid e)) ∙ uid_same x.uid)) distinct.2
 
 -- who isn't there has none
-no_path : (xs : List Act) (l : List ℕ) → act_in xs l ≡ None → path xs l ≡ []
+pub no_path : (xs : List Act) (l : List ℕ) → act_in xs l ≡ None → path xs l ≡ []
 no_path [] l none = refl
 no_path (x ∷ xs) l none = by (bytes_eq x.label l) none (no_path xs l)
   where
@@ -60,7 +60,7 @@ older_distinct xs (l ∷ ls) distinct = by l.body (older_distinct (acts_after xs
     by b more = more
 
 -- a label's path stays as lines come
-path_stays : (xs : List Act) (ls : List Line) → AreDistinct (acts_from xs ls) → (l : List ℕ) (a : Act) → act_in xs l ≡ Some a →
+pub path_stays : (xs : List Act) (ls : List Line) → AreDistinct (acts_from xs ls) → (l : List ℕ) (a : Act) → act_in xs l ≡ Some a →
     path (acts_from xs ls) l ≡ path xs l
 path_stays xs [] distinct l a named = refl
 path_stays xs (line ∷ ls) distinct l a named =

@@ -1,6 +1,6 @@
 -- Each line of a journal says why it stands: what laws say of its kinds, one by one, holds of it together.
 use Rattle.arj_law_parts.proofs.Words
-use Words.{◌≡◌, ◌&&◌, ◌||◌, if◌then◌else◌, not, ℕ, Bool, true, false, List, [], ◌∷◌, refl, and_parts, AllByRecursion, Body, Event, Header, Line}
+use Words.{◌≡◌, ◌&&◌, ◌||◌, not, ℕ, Bool, true, false, List, [], ◌∷◌, refl, and_parts, AllByRecursion, Body, Event, Header, Line}
 use Words.{journal_by}
 use Words.body
 use Words.cause
@@ -21,7 +21,6 @@ use Rattle.arj_law_cause.proofs.kinds.Aborts.{abort_row}
 use Rattle.arj_law_cause.proofs.kinds.Committed.{done_row}
 use Rattle.arj_law_cause.proofs.kinds.Committing.{committed_run}
 use Rattle.arj_law_cause.proofs.kinds.Denied.{step_fits}
-use Rattle.arj_law_cause.proofs.kinds.Entries.{granted_entry_row}
 use Rattle.arj_law_cause.proofs.kinds.Forms.{runs_too, so_too}
 use Rattle.arj_law_cause.proofs.kinds.Frames.{armed_row, dropped_row, got_row, halted_row, sent_row, void_row}
 use Rattle.arj_law_cause.proofs.kinds.Granted.{granted_row}
@@ -35,17 +34,17 @@ use Rattle.arj_law_cause.proofs.kinds.Shown.{copy_row, entry_row}
 use Rattle.arj_law_cause.proofs.kinds.Up.{up_row}
 use Rattle.arj_law_cause.proofs.rows.Whole.{answers_are_caused}
 use Rattle.arj_law_cause.proofs.told.Joined.{journals_follow}
+use Rattle.arj_law_cause.proofs.told.Locks.{granted_whole}
 use Rattle.arj_law_cause.proofs.told.Together.{AreInside, step_inside, together}
 use Rattle.arj_law_cause.proofs.waits.given.Running.{given_row}
 use Rattle.arj_law_cause.proofs.votes.{Excluded.excluded_run, Prepared.prepared_row}
 use Rattle.arj_law_cause.specs.kinds.Kinds.{is_abort_done, is_active, is_armed, is_bare_abort, is_bound, is_commit_done, is_committed}
 use Rattle.arj_law_cause.specs.kinds.Kinds.{is_copy_shown, is_denial, is_dropped, is_entry_shown, is_excluded, is_found, is_got}
 use Rattle.arj_law_cause.specs.kinds.Kinds.{is_granted_entry, is_granted_object, is_halted, is_limit, is_listed_abort, is_lock_lowered}
-use Rattle.arj_law_cause.specs.kinds.Kinds.{is_lost_commit, is_met_abort, is_node_given_up, is_old_abort, is_opening, is_prepared}
-use Rattle.arj_law_cause.specs.kinds.Kinds.{is_quiet, is_sent, is_told}
-use Rattle.arj_law_cause.specs.kinds.Kinds.{is_up, is_void}
+use Rattle.arj_law_cause.specs.kinds.Kinds.{is_lost_commit, is_met_abort, is_node_given_up, is_old_abort, is_opening, is_prepared, is_quiet}
+use Rattle.arj_law_cause.specs.kinds.Kinds.{is_sent, is_told, is_up, is_void}
 use Rattle.arj_law_cause.specs.kinds.Rows.{row, tested}
-use Rattle.arj_law_cause.specs.kinds.Tests.{is_committed_so, is_excluded_so, is_granted_so, is_old_so}
+use Rattle.arj_law_cause.specs.kinds.Tests.{is_committed_so, is_excluded_so, is_old_so}
 use Rattle.arj_law_cause.specs.rows.Lines.{answer_fits}
 use Rattle.arj_law_cause.specs.told.Lines.{TellsWhy, is_told_why}
 
@@ -124,7 +123,7 @@ others =
     ∷ row (λ h. is_abort_done)
     ∷ row (λ h. is_told)
     ∷ row (λ h. is_granted_object)
-    ∷ tested is_granted_so (λ h. is_granted_entry)
+    ∷ row (λ h. is_granted_entry)
     ∷ row (λ h. is_bound)
     ∷ row (λ h. is_active)
     ∷ row (λ h. is_lock_lowered)
@@ -180,7 +179,7 @@ module _ (hd : Header) (r : Run hd) (form : IsInForm hd r) where
                                 ((
                                   (λ h c. refl, granted_row hd r form),
                                   ((
-                                    (λ h c. refl, granted_entry_row hd r form),
+                                    (λ h c. refl, granted_whole hd r form),
                                     ((
                                       (λ h c. refl, bound_row hd r form),
                                       ((
@@ -281,10 +280,9 @@ why h (body.Granted n u o mode) is = by (is_entry o) is
     b : Body
     b = body.Granted n u o mode
 
-    by : (e : Bool) → ((not (not e) || has_cause h b) && ((not e || is_granted_so h b) && true)) ≡ true →
-        (if e then is_granted_so h b else has_cause h b) ≡ true
+    by : (e : Bool) → ((not (not e) || has_cause h b) && ((not e || has_cause h b) && true)) ≡ true → has_cause h b ≡ true
     by false k = (and_parts (has_cause h b) true k).0
-    by true k = (and_parts (is_granted_so h b) true k).0
+    by true k = (and_parts (has_cause h b) true k).0
 
 pub journals_say_why : (hd : Header) (r : Run hd) → IsInForm hd r → Runs (TellsWhy hd) r.start (run_events hd r) (journal_by hd r)
 journals_say_why hd r form = runs_too

@@ -1,34 +1,18 @@
 -- What lines of some kinds say is so: parts of their causes.
-use Rattle.std.specs.Prelude.{ℕ, ◌+◌, [], ◌∷◌, Bool, true, ◌==◌, ◌&&◌, ◌||◌, not, if◌then◌else◌, nat_le, is_none}
-use Rattle.arj_base.specs.Rows.{first_conflict}
-use Rattle.arj_base.specs.declared.mode.Mode.{Mode}
-use Rattle.arj_base.specs.declared.uid.Uid.{Uid}
+use Rattle.std.specs.Prelude.{◌+◌, [], ◌∷◌, Bool, true, ◌&&◌, ◌||◌, if◌then◌else◌, nat_le}
 use Rattle.arj_journal.specs.declared.body.Body.{Body}
 use Rattle.arj_journal.specs.declared.body.Body.TheVariants as body
 use Rattle.arj_journal.specs.declared.body.Cause.TheVariants as cause
 use Rattle.arj_journal.specs.declared.body.FrameKind.TheVariants as frame
 use Rattle.arj_text.specs.Label.{name}
 use Rattle.arj_model.specs.Actions.{act_in, acts}
-use Rattle.arj_model.specs.CauseAnswers.{has_lock}
 use Rattle.arj_model.specs.CauseCommits.{writers}
 use Rattle.arj_model.specs.CauseEnds.{is_commit_of}
-use Rattle.arj_model.specs.CauseLocks.{granted_caused, is_restart}
 use Rattle.arj_model.specs.CausePends.{changes, has_written}
 use Rattle.arj_model.specs.CauseSpans.{Here, answered, commit_here, commits_so, holds_in}
 use Rattle.arj_model.specs.Last.{is_among, joins_of}
 use Rattle.arj_model.specs.Refusals.{holds_of}
-use Rattle.arj_model.specs.Table.{table}
 use Rattle.arj_protocol.specs.Tree.{is_nested}
-
--- naming gives the lock back to an action that hasn't it by the table, and meets none there
-abbrev pub is_given_back : Here → ℕ → Uid → Uid → Mode → Bool
-is_given_back h n u o mode =
-    (n == 1) && (not (has_lock n u o mode h.lines) && is_none (first_conflict (u ∷ []) o mode (table n h.lines)))
-
--- `granted`. Outside of a restart it has its cause, and in one the lock is given back.
-abbrev pub is_granted_so : Here → Body → Bool
-is_granted_so h (body.Granted n u o mode) = if is_restart h.event then is_given_back h n u o mode else granted_caused h n u o mode
-is_granted_so h _ = true
 
 -- `committed`. A nested action commits in the event that commits it, and any other while its commit is under way.
 abbrev pub is_committed_so : Here → Body → Bool
