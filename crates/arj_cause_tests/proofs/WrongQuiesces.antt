@@ -1,23 +1,31 @@
 -- What quiesces must not do: leave a call, an include or a commit waiting, as where a tick forgets one kind of request; lose a call; or say
--- that something is left to do where nothing is. Also how many frames an event must not send.
-use Rattle.std.specs.Prelude.{◌≡◌, ◌≤◌, ℕ, refl, ◌⊎◌, List, [], ◌∷◌, ◌++◌, true, false, Some, codes}
+-- that something is left to do where nothing is. Also how many frames an event must not send, and that few meet no limit.
+use Rattle.std.specs.Prelude.{◌≡◌, ◌≤◌, ◌+◌, ℕ, zero, suc, refl, ◌⊎◌, List, [], ◌∷◌, ◌++◌, true, false, Some, codes}
 use Rattle.std.proofs.Common.{arith, sym, ⊎_elim}
 use Rattle.arj_class.specs.declared.op.Op.TheVariants as op
 use Rattle.arj_class.specs.declared.value.Value.TheVariants as value
 use Rattle.arj_journal.specs.declared.body.Body.{Body}
 use Rattle.arj_journal.specs.declared.body.Body.TheVariants as body
+use Rattle.arj_journal.specs.declared.body.Cause.TheVariants as cause
 use Rattle.arj_journal.specs.declared.body.Difference.TheVariants as difference
 use Rattle.arj_journal.specs.declared.body.FrameKind.TheVariants as frame
+use Rattle.arj_journal.specs.declared.body.Line.{Line}
+use Rattle.arj_journal.specs.declared.body.Which.TheVariants as which
 use Rattle.arj_journal.specs.declared.event.Event.TheVariants as event
 use Rattle.arj_journal.specs.declared.event.FrameNo.TheVariants.{Number}
 use Rattle.arj_journal.specs.declared.header.Header.{Header}
 use Rattle.arj_model.specs.Past.{Past, nothing_yet}
 use Rattle.arj_law_cause.specs.rounds.Alone.{AloneStep}
+use Rattle.arj_law_cause.specs.rounds.Fits.{FewFit}
 use Rattle.arj_law_cause.specs.rounds.Quiesces.{Answers, IsWhole, QuiescesStep, SaysQuiet}
 use Rattle.arj_law_cause.specs.rounds.Sends.{SendsStep}
 use Rattle.arj_text.specs.Label.{name}
 use Rattle.arj_cause_tests.proofs.Words.{Wrote, b, end_from, l, nodes, object_line}
 use Rattle.arj_cause_tests.proofs.WrongEvents.{begins, two_nodes}
+
+-- the lines of a run
+abbrev lines_of : List Wrote → List Line
+lines_of wrote = let p = end_from nothing_yet wrote in p.lines
 
 -- an action that asked, whose request was lost
 abbrev asking : Wrote → Past
@@ -133,10 +141,65 @@ call_once = omega arith
 answer_once : SendsStep two_nodes binding (event.Deliver (Number 1)) (body.Got 1 ∷ body.Sent 2 2 1 frame.Bound ∷ [])
 answer_once = omega arith
 
--- Of a commit nothing is said, nor of an answer in one.
-commit_free : SendsStep two_nodes (end_from nothing_yet (begins ∷ [])) (event.Commit (l 65)) two_binds
-commit_free = tt
+-- ---- and to each other node
 
-voted_free : SendsStep two_nodes (end_from voting ((event.Deliver (Number 1), body.Got 1 ∷ body.Sent 2 2 1 frame.Voted ∷ []) ∷ []))
-    (event.Deliver (Number 2)) (body.Got 2 ∷ body.Sent 3 1 2 frame.Prepare ∷ body.Sent 4 1 2 frame.Prepare ∷ [])
-voted_free = tt
+-- so many frames to the other node, behind those that were sent
+abbrev sent_from : ℕ → ℕ → List Body
+sent_from k zero = []
+sent_from k (suc n) = body.Sent (k + 1) 1 2 frame.Told ∷ sent_from (k + 1) n
+
+-- a commit sends no fifth one
+commit_more : SendsStep two_nodes (end_from nothing_yet (begins ∷ [])) (event.Commit (l 65)) (body.Committing (l 65) ∷ sent_from 0 5) → ⊥
+commit_more s = let no_way : 5 ≤ 4 = s in absurd (omega (arith, no_way))
+
+commit_four : SendsStep two_nodes (end_from nothing_yet (begins ∷ [])) (event.Commit (l 65)) (body.Committing (l 65) ∷ sent_from 0 4)
+commit_four = omega arith
+
+-- an answer to a Vote no fourth
+abbrev voted : Past
+voted = end_from voting ((event.Deliver (Number 1), body.Got 1 ∷ body.Sent 2 2 1 frame.Voted ∷ []) ∷ [])
+
+voted_more : SendsStep two_nodes voted (event.Deliver (Number 2)) (body.Got 2 ∷ sent_from 2 4) → ⊥
+voted_more s = let no_way : 6 ≤ 5 = s in absurd (omega (arith, no_way))
+
+-- an answer to a Prepare no third
+abbrev prepared : Past
+prepared = end_from nothing_yet (begins ∷ (event.Commit (l 65), body.Committing (l 65) ∷ body.Sent 1 1 2 frame.Prepare ∷ [])
+    ∷ (event.Deliver (Number 1), body.Got 1 ∷ body.Sent 2 2 1 frame.Prepared ∷ []) ∷ [])
+
+prepared_more : SendsStep two_nodes prepared (event.Deliver (Number 2)) (body.Got 2 ∷ sent_from 2 3) → ⊥
+prepared_more s = let no_way : 5 ≤ 4 = s in absurd (omega (arith, no_way))
+
+-- an acknowledgement no second
+abbrev acked : Past
+acked = end_from nothing_yet (begins ∷ (event.Commit (l 65), body.Committing (l 65) ∷ body.Sent 1 1 2 frame.Told ∷ [])
+    ∷ (event.Deliver (Number 1), body.Got 1 ∷ body.Sent 2 2 1 frame.Acked ∷ []) ∷ [])
+
+acked_more : SendsStep two_nodes acked (event.Deliver (Number 2)) (body.Got 2 ∷ sent_from 2 2) → ⊥
+acked_more s = let no_way : 4 ≤ 3 = s in absurd (omega (arith, no_way))
+
+-- a giveup no third
+giveup_more : SendsStep two_nodes voting (event.GiveUp (l 65)) (body.GaveUp (l 65) 2 ∷ sent_from 1 3) → ⊥
+giveup_more s = let no_way : 4 ≤ 3 = s in absurd (omega (arith, no_way))
+
+-- an abort of one action no second
+abort_more : SendsStep two_nodes (end_from nothing_yet (begins ∷ [])) (event.Abort (l 65))
+    (body.Aborted (l 65) cause.Asked ∷ sent_from 0 2) → ⊥
+abort_more s = let no_way : 2 ≤ 1 = s in absurd (omega (arith, no_way))
+
+-- Of a hello nothing is said.
+hello_free : SendsStep two_nodes (end_from nothing_yet ((event.Crash 1, body.Halted 1 ∷ [])
+    ∷ (event.Restart 1, body.Up 1 2 ∷ body.Sent 1 1 2 frame.Hello ∷ []) ∷ [])) (event.Deliver (Number 1)) (body.Got 1 ∷ sent_from 1 9)
+hello_free = tt
+
+-- ---- the limit of frames
+
+-- Few events don't meet it, where none of them is a tick, a restart, a settle or a quiesce.
+limit_early : FewFit (event.Begin (l 65) 1 ∷ event.Commit (l 65) ∷ [])
+    (lines_of (begins ∷ (event.Commit (l 65), body.Committing (l 65) ∷ body.Limit which.Frames ∷ []) ∷ [])) → ⊥
+limit_early f = let no_way : true ≡ false = f refl (omega arith) in absurd (cc no_way)
+
+-- Of a tick that isn't said.
+tick_free : FewFit (event.Begin (l 65) 1 ∷ event.Tick 1 ∷ [])
+    (lines_of (begins ∷ (event.Tick 1, body.Limit which.Frames ∷ []) ∷ []))
+tick_free light few = absurd (cc light)

@@ -11,3 +11,4 @@ pub mod quiesces
 pub mod bindings
 pub mod confirm
 pub mod votes
+pub mod sending

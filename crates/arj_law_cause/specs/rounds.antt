@@ -3,3 +3,4 @@ pub mod Rounds
 pub mod Known
 pub mod Alone
 pub mod Sends
+pub mod Fits

@@ -16,7 +16,8 @@
 //! `copies_have_causes`, `locks_lowered_have_causes`, `lost_commits_have_causes`, `giveups_have_causes`,
 //! `refused_commits_have_causes`, `preparations_have_causes`, `commits_are_called`, `exclusions_are_called`;
 //! `messages_can_be_spelled`, `journals_are_in_form`; `journals_tell_how_nodes_are`, `quiesces_answer_who_waits`,
-//! `rounds_end_quiet`, `asked_alone_is_answered`, `calls_send_one_frame`.
+//! `rounds_end_quiet`, `asked_alone_is_answered`, `events_send_few_frames`,
+//! `few_events_meet_no_limit`.
 #![tactic(auto)]
 
 mod answers;
@@ -49,8 +50,8 @@ pub use refused::{
     dooms_have_causes, object_refusals_follow, refusals_follow, tree_refusals_follow,
 };
 pub use rounds::{
-    asked_alone_is_answered, calls_send_one_frame, journals_tell_how_nodes_are,
-    quiesces_answer_who_waits, rounds_end_quiet,
+    asked_alone_is_answered, events_send_few_frames, few_events_meet_no_limit,
+    journals_tell_how_nodes_are, quiesces_answer_who_waits, rounds_end_quiet,
 };
 pub use tables::tables_agree_inside_events;
 pub use telling::{journals_follow_their_events, journals_tell_their_causes};

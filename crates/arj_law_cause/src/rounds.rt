@@ -1,5 +1,6 @@
-// What quiesces and rounds answer and leave, and how many frames an event sends, by the events and the journal alone.
+// What quiesces and rounds answer and leave, how many frames an event sends, and that few meet no limit, by events and journal alone.
 ghost use Rattle.arj_law_cause.specs.rounds.Alone.{RunsAnswerAlone};
+ghost use Rattle.arj_law_cause.specs.rounds.Fits.{RunsFit};
 ghost use Rattle.arj_law_cause.specs.rounds.Known.{RoundsLeaveAll, RunsAnswer, RunsAreKnown, RunsEndRounds};
 ghost use Rattle.arj_law_cause.specs.rounds.Sends.{RunsSendFew};
 
@@ -34,10 +35,19 @@ pub fn asked_alone_is_answered()
     ensures runs { RunsAnswerAlone }
 {}
 
-/// In every run in form, wherever it begins and wherever disks stop, an event sends one frame at most by which an action calls or includes, or
-/// which delivers a request or an answer of a call or an include, or to another node a request of a commit, an end or a question, or hands over
-/// bytes; and none by which an action begins, a frame is lost, a node crashes, a stop is armed, or an object is shown. It does nothing when it
-/// runs.
-pub fn calls_send_one_frame()
+/// In every run in form, wherever it begins and wherever disks stop, an event sends so many frames at most, in words of the journal before
+/// it: one by which an action calls or includes, or which hands over bytes; to each other node four by which an action commits, two by
+/// which it is given up, and one for each open action that an abort ends. A delivery sends one frame where it is of a call, an include, or
+/// to another node a request of a commit, an end or a question; to each other node one of an acknowledgement, two of an answer to a Prepare
+/// or a Confirm, and three of any other but a hello. None is sent by which an action begins, a frame is lost, a node crashes, a stop is
+/// armed, or an object is shown. It does nothing when it runs.
+pub fn events_send_few_frames()
     ensures runs { RunsSendFew }
+{}
+
+/// In every run in form, wherever it begins and wherever disks stop, few events meet no limit of frames, where none of them is a tick, a
+/// restart, a settle or a quiesce: so many as are, with the lines that say of an action that it was aborted as asked, 1,666 at most. It
+/// does nothing when it runs.
+pub fn few_events_meet_no_limit()
+    ensures runs { RunsFit }
 {}

@@ -90,7 +90,7 @@ own_rounds n (suc j) r m none i = by r.queue (own_rounds n j (next_round n r) m 
     by [] rest i = none i
     by (x ∷ ms) rest i = rest i
 
-own_whole : (n : ℕ) (t : Parts) (outs : List Effect) (d : Disk) (m : Message) → members.In (Send n m) (whole n t outs d).outs → ⊥
+pub own_whole : (n : ℕ) (t : Parts) (outs : List Effect) (d : Disk) (m : Message) → members.In (Send n m) (whole n t outs d).outs → ⊥
 own_whole n t outs d m = own_rounds n most_rounds (ran n t outs d) m (own_ran n t outs d m)
 
 -- ---- what is under way

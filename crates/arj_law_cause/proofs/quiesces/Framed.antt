@@ -1,7 +1,7 @@
 -- How many frames an event adds to the world, and by its journal.
 use Rattle.arj_law_parts.proofs.Words
 use Words.{◌≡◌, ◌≤◌, ◌∙◌, ◌+◌, ◌-◌, ◌==◌, ◌++◌, ℕ, zero, suc, Bool, true, false, cond, List, [], ◌∷◌, length, take, refl, sym, ap, subst}
-use Words.{arith, ◌&&◌, ◌||◌, not, and_parts}
+use Words.{arith, ◌&&◌, ◌||◌, ◌*◌, not, and_parts, actor, is_some, name, open_below}
 use Words.{nat_lt, Option, Some, None, IfSome, length-append, Body, Event, FrameNo, Header, Kind, Label, Message, ObjectState, Uid}
 use Words.{begin_action, Did, Disk, Do, Effect, Pair, Say, Send, Stop, held_at, holder_of, worked, Handled, Parts, Took, Void, taken}
 use Words.{whole, with_coord}
@@ -37,7 +37,20 @@ use Sends.{SendsOne, count_both, count_sent, goes_one, of_call, taken_one, whole
 use Rattle.arj_law_cause.proofs.quiesces.Ties as ties
 use Rattle.arj_law_cause.proofs.quiesces.Walked as walked
 use Rattle.arj_law_cause.proofs.quiesces.Back.{SendsBack, is_back, taken_back, whole_back}
-use Rattle.arj_law_cause.specs.rounds.Sends.{RunsSendFew, SendsStep, is_answered, is_answered_frame, is_call_frame, is_of_call, most_sent}
+use Rattle.arj_law_parts.proofs.moves.{Happens.keeps_asked, Moving.move_asked, Moving.moves_asked}
+use Rattle.arj_law_runs.proofs.Terms as terms
+use Rattle.arj_law_runs.proofs.Terms.{Holds, act_in}
+use Rattle.arj_law_runs.proofs.follow.Shorts as shorts
+use Rattle.arj_model.specs.Own.{aborted_of}
+use Rattle.arj_law_runs.proofs.addresses.Runs.{kept, within_of}
+use Rattle.arj_law_runs.specs.addresses.Addresses.{AreAddressed, GoWithin, IsNode}
+use Rattle.arj_law_cause.proofs.follow.lines.{Aborts.abort_many, Adding.count_so, Numbers.AreInTurn}
+use Rattle.arj_law_cause.proofs.follow.lines.Events as lines
+use Rattle.arj_law_cause.proofs.sending.Counted.{each, each_is}
+use Rattle.arj_law_cause.proofs.sending.Events.{abort_adds, acked_adds, commit_adds, giveup_adds, other_adds, prepared_adds}
+use Rattle.arj_law_cause.proofs.sending.Ordered.{AllUp, UpNode, ordered_keep}
+use Rattle.arj_law_cause.specs.rounds.Sends.{RunsSendFew, SendsStep, carries, is_acked, is_answered, is_answered_frame, is_call_frame}
+use Rattle.arj_law_cause.specs.rounds.Sends.{is_hello, is_of_call, is_prepared, most_delivered, most_sent, others}
 
 -- ---- effects as frames
 
@@ -406,11 +419,16 @@ deliver_back k w numbers = by (at_place k w.frames)
         carried f f.message p.0 (differ (f.from == f.to) p.1)
 
 -- of each event for which there is a bound
-module _ (ls : List Words.Line) (w : World) (last : last_frame ls ≡ length w.frames)
+module _ (hd : Header) (ls : List Words.Line) (w : World) (last : last_frame ls ≡ length w.frames)
     (frames : (test : ℕ → ℕ → FrameKind → Bool) (k : ℕ) → frame_is test ls k ≡ frame_test test (at_place k w.frames))
-    (numbers : (n : ℕ) (x : Node) → at_place n w.nodes ≡ Some x → x.number ≡ n) where
+    (numbers : (n : ℕ) (x : Node) → at_place n w.nodes ≡ Some x → x.number ≡ n)
+    (nodes : (n : ℕ) (x : Node) → at_place n w.nodes ≡ Some x → IsNode hd n)
+    (ups : (n : ℕ) (x : Node) → at_place n w.nodes ≡ Some x → UpNode x)
+    (ends : (l : Label) (x : Node) (t : Parts) (b : Branch) → at_place (node_of l w) w.nodes ≡ Some x → x.live ≡ Some t →
+    branch_named l t.coord ≡ Some b → is_some b.ended ≡ false →
+    length (open_below (actor b.path) t.coord.tree ++ actor b.path ∷ []) ≤ length (aborted_of ls (act_in (terms.acts ls) (name l)))) where
   abbrev Bound : Event → Type 0
-  Bound e = (a : Arm) → IfSome (most_sent ls e) (λ k. Adds k w (happens e a w))
+  Bound e = (a : Arm) → GoWithin hd.nodes (happens e a w) → IfSome (most_sent hd ls e) (λ k. Adds k w (happens e a w))
 
   none : (a : ℕ) → a ≤ a + 0
   none a = omega arith
@@ -419,36 +437,78 @@ module _ (ls : List Words.Line) (w : World) (last : last_frame ls ≡ length w.f
   number_is (frame_no.Number j) = refl
   number_is frame_no.Last = last
 
-  delivered : (k : FrameNo) (b c : Bool) → is_call_frame ls (model.frame_no ls k) ≡ b → is_answered_frame ls (model.frame_no ls k) ≡ c →
-      IfSome (cond (b || c) (Some 1) None) (λ j. Adds j w (deliver (frame_number k w) w))
-  delivered k true c is back = deliver_frames (frame_number k w) w
-      (sym (frames (λ from to what. is_of_call what) (frame_number k w)) ∙ ap (is_call_frame ls) (sym (number_is k)) ∙ is)
-  delivered k false true is back = deliver_back (frame_number k w) w numbers
+  -- so many to each other node
+  times : (c : ℕ) (v : World) → length v.frames ≤ length w.frames + each c (hd.nodes - 1) → Adds (c * others hd) w v
+  times c v le = subst (λ a. length v.frames ≤ length w.frames + a) (each_is c (hd.nodes - 1)) le
+
+  test_is : (test : FrameKind → Bool) (b : Bool) (k : FrameNo) → carries test ls (model.frame_no ls k) ≡ b →
+      frame_test (λ from to what. test what) (at_place (frame_number k w) w.frames) ≡ b
+  test_is test b k is = sym (frames (λ from to what. test what) (frame_number k w)) ∙ ap (carries test ls) (sym (number_is k)) ∙ is
+
+  abbrev Delivers : FrameNo → Option ℕ → Type 0
+  Delivers k most = GoWithin hd.nodes (deliver (frame_number k w) w) → IfSome most (λ j. Adds j w (deliver (frame_number k w) w))
+
+  other_so : (k : FrameNo) (b : Bool) → carries is_hello ls (model.frame_no ls k) ≡ b → Delivers k (cond b None (Some (3 * others hd)))
+  other_so k true is within = tt
+  other_so k false is within = times 3 (deliver (frame_number k w) w)
+      (other_adds hd w nodes numbers ups (frame_number k w) (test_is is_hello false k is) within)
+
+  prepared_so : (k : FrameNo) (b : Bool) → carries is_prepared ls (model.frame_no ls k) ≡ b → (rest : Option ℕ) → Delivers k rest →
+      Delivers k (cond b (Some (2 * others hd)) rest)
+  prepared_so k true is rest other within = times 2 (deliver (frame_number k w) w)
+      (prepared_adds hd w nodes numbers ups (frame_number k w) (test_is is_prepared true k is) within)
+  prepared_so k false is rest other within = other within
+
+  acked_so : (k : FrameNo) (b : Bool) → carries is_acked ls (model.frame_no ls k) ≡ b → (rest : Option ℕ) → Delivers k rest →
+      Delivers k (cond b (Some (others hd)) rest)
+  acked_so k true is rest other within = one (length (deliver (frame_number k w) w).frames) (length w.frames) (each 1 (hd.nodes - 1))
+      (hd.nodes - 1) (each_is 1 (hd.nodes - 1)) (acked_adds hd w nodes numbers ups (frame_number k w) (test_is is_acked true k is) within)
+    where
+      one : (a b c n : ℕ) → c ≡ 1 * n → a ≤ b + c → a ≤ b + n
+      one a b c n is le = omega (arith, is, le)
+  acked_so k false is rest other within = other within
+
+  called_so : (k : FrameNo) (b c : Bool) → is_call_frame ls (model.frame_no ls k) ≡ b → is_answered_frame ls (model.frame_no ls k) ≡ c →
+      (rest : Option ℕ) → Delivers k rest → Delivers k (cond (b || c) (Some 1) rest)
+  called_so k true c is back rest other within = deliver_frames (frame_number k w) w (test_is is_of_call true k is)
+  called_so k false true is back rest other within = deliver_back (frame_number k w) w numbers
       (sym (frames (λ from to what. is_answered what && not (from == to)) (frame_number k w))
       ∙ ap (is_answered_frame ls) (sym (number_is k)) ∙ back)
-  delivered k false false is back = tt
+  called_so k false false is back rest other within = other within
+
+  delivered : (k : FrameNo) → Delivers k (most_delivered hd ls (model.frame_no ls k))
+  delivered k =
+      let i = model.frame_no ls k in
+      let late = cond (carries is_hello ls i) None (Some (3 * others hd)) in
+      let more = cond (carries is_prepared ls i) (Some (2 * others hd)) late in
+      called_so k (is_call_frame ls i) (is_answered_frame ls i) refl refl (cond (carries is_acked ls i) (Some (others hd)) more)
+      (acked_so k (carries is_acked ls i) refl more (prepared_so k (carries is_prepared ls i) refl late
+      (other_so k (carries is_hello ls i) refl)))
 
   pub bounded : (e : Event) → Bound e
-  bounded (event.Call l x op) a = steps_frames 1 (node_of l w) (input.Call l x op) w (call_few w.header l x op)
-  bounded (event.Include l x n) a = steps_frames 1 (node_of l w) (input.Include l x n) w (include_few w.header l x n)
-  bounded (event.Deliver k) a = delivered k (is_call_frame ls (model.frame_no ls k)) (is_answered_frame ls (model.frame_no ls k)) refl refl
-  bounded (event.Junk n bytes) a = junk_frames n w
-  bounded (event.Commit l) a = tt
-  bounded (event.Abort l) a = tt
-  bounded (event.GiveUp l) a = tt
-  bounded (event.Tick n) a = tt
-  bounded (event.Restart n) a = tt
-  bounded event.Settle a = tt
-  bounded event.Quiesce a = tt
-  bounded (event.Begin l n) a = begins_frames (record { label = l; kind = Words.kind.Top; parent = None; node = n }) w
-  bounded (event.Serial l n) a = begins_frames (record { label = l; kind = Words.kind.Serial; parent = None; node = n }) w
-  bounded (event.BeginIn l p) a =
+  bounded (event.Call l x op) a within = steps_frames 1 (node_of l w) (input.Call l x op) w (call_few w.header l x op)
+  bounded (event.Include l x n) a within = steps_frames 1 (node_of l w) (input.Include l x n) w (include_few w.header l x n)
+  bounded (event.Deliver k) a within = delivered k within
+  bounded (event.Junk n bytes) a within = junk_frames n w
+  bounded (event.Commit l) a within = times 4 (steps (node_of l w) (input.Commit l) w) (commit_adds hd w nodes numbers ups l within)
+  bounded (event.Abort l) a within =
+      let c = length (aborted_of ls (act_in (terms.acts ls) (name l))) in
+      times c (steps (node_of l w) (input.Abort l) w) (abort_adds hd w nodes numbers ups l c (ends l) within)
+  bounded (event.GiveUp l) a within = times 2 (steps (node_of l w) (input.GiveUp l) w) (giveup_adds hd w nodes numbers ups l within)
+  bounded (event.Tick n) a within = tt
+  bounded (event.Restart n) a within = tt
+  bounded event.Settle a within = tt
+  bounded event.Quiesce a within = tt
+  bounded (event.Begin l n) a within = begins_frames (record { label = l; kind = Words.kind.Top; parent = None; node = n }) w
+  bounded (event.Serial l n) a within = begins_frames (record { label = l; kind = Words.kind.Serial; parent = None; node = n }) w
+  bounded (event.BeginIn l p) a within =
       begins_frames (record { label = l; kind = Words.kind_below p w; parent = Some p; node = node_of p w }) w
-  bounded (event.Top l p) a = begins_frames (record { label = l; kind = Words.kind.Independent; parent = Some p; node = node_of p w }) w
-  bounded (event.Lose k) a = lose_frames (frame_number k w) w
-  bounded (event.Crash n) a = steps_frames 0 n input.Crash w (crash_few w.header)
-  bounded (event.Stop n c how) a = none (length w.frames)
-  bounded (event.Show x) a = show_frames x (node_numbers w) w
+  bounded (event.Top l p) a within = begins_frames
+      (record { label = l; kind = Words.kind.Independent; parent = Some p; node = node_of p w }) w
+  bounded (event.Lose k) a within = lose_frames (frame_number k w) w
+  bounded (event.Crash n) a within = steps_frames 0 n input.Crash w (crash_few w.header)
+  bounded (event.Stop n c how) a within = none (length w.frames)
+  bounded (event.Show x) a within = show_frames x (node_numbers w) w
 
 -- ---- in a run
 
@@ -461,17 +521,23 @@ if_all None P each = tt
 if_all (Some k) P each = each k
 
 -- an event that is refused, or not run, sends none
-module _ (ls : List Words.Line) (w : World) (last : last_frame ls ≡ length w.frames)
+module _ (hd : Header) (ls : List Words.Line) (w : World) (last : last_frame ls ≡ length w.frames)
     (frames : (test : ℕ → ℕ → FrameKind → Bool) (k : ℕ) → frame_is test ls k ≡ frame_test test (at_place k w.frames))
-    (numbers : (n : ℕ) (x : Node) → at_place n w.nodes ≡ Some x → x.number ≡ n) (m : Move) where
+    (numbers : (n : ℕ) (x : Node) → at_place n w.nodes ≡ Some x → x.number ≡ n)
+    (nodes : (n : ℕ) (x : Node) → at_place n w.nodes ≡ Some x → IsNode hd n)
+    (ups : (n : ℕ) (x : Node) → at_place n w.nodes ≡ Some x → UpNode x)
+    (ends : (l : Label) (x : Node) (t : Parts) (b : Branch) → at_place (node_of l w) w.nodes ≡ Some x → x.live ≡ Some t →
+    branch_named l t.coord ≡ Some b → is_some b.ended ≡ false →
+    length (open_below (actor b.path) t.coord.tree ++ actor b.path ∷ [])
+    ≤ length (aborted_of ls (act_in (terms.acts ls) (name l)))) (m : Move) where
   abbrev In : World → Type 0
-  In v = IfSome (most_sent ls (event_of m)) (λ k. Adds k w v)
+  In v = GoWithin hd.nodes v → IfSome (most_sent hd ls (event_of m)) (λ k. Adds k w v)
 
   stays : (a b : ℕ) → a ≤ a + b
   stays a b = omega arith
 
   as_it_is : (v : World) → v.frames ≡ w.frames → In v
-  as_it_is v same = if_all (most_sent ls (event_of m)) (λ k. Adds k w v)
+  as_it_is v same within = if_all (most_sent hd ls (event_of m)) (λ k. Adds k w v)
       (λ k. subst (λ fs. length fs ≤ length w.frames + k) (sym same) (stays (length w.frames) k))
 
   abbrev u : World
@@ -479,8 +545,10 @@ module _ (ls : List Words.Line) (w : World) (last : last_frame ls ≡ length w.f
 
   fits : (b : Bool) → let v = happens (event_of m) (let a = m.asked in a.arm) (counted (record w { arms = m.falls })) in
       In (record (cond b (world_says (body.Limit Words.words.which.Frames ∷ []) (record v { over = true })) v) { arms = [] })
-  fits true = bounded ls (counted (record w { arms = m.falls })) last frames numbers (event_of m) (let a = m.asked in a.arm)
-  fits false = bounded ls (counted (record w { arms = m.falls })) last frames numbers (event_of m) (let a = m.asked in a.arm)
+  fits true = bounded hd ls (counted (record w { arms = m.falls })) last frames numbers nodes ups ends (event_of m)
+      (let a = m.asked in a.arm)
+  fits false = bounded hd ls (counted (record w { arms = m.falls })) last frames numbers nodes ups ends (event_of m)
+      (let a = m.asked in a.arm)
 
   accepted : (lacks : Bool) → In (record (cond lacks (no_labels (record w { arms = m.falls }))
       (limited (happens (event_of m) (let a = m.asked in a.arm) (counted (record w { arms = m.falls }))))) { arms = [] })
@@ -513,12 +581,41 @@ module _ (hd : Header) (form : HeaderInForm hd) (front : Run hd) (m : Move) (p :
   numbers : (n : ℕ) (x : Node) → at_place n (let w = world_by hd front in w.nodes) ≡ Some x → x.number ≡ n
   numbers n x there = let t = ties.told hd form p (world_by hd front) s.all in (t.placed.nodes n x there).1
 
+  nodes : (n : ℕ) (x : Node) → at_place n (let w = world_by hd front in w.nodes) ≡ Some x → IsNode hd n
+  nodes n x there = let t = ties.told hd form p (world_by hd front) s.all in (t.placed.nodes n x there).0
+
+  ups : (n : ℕ) (x : Node) → at_place n (let w = world_by hd front in w.nodes) ≡ Some x → UpNode x
+  ups n x there =
+      let h : Holds hd AllUp (world_by hd front) = moves_asked hd AllUp (keeps_asked hd AllUp (ordered_keep hd)) front in h.holds n x there
+
+  ends : (l : Label) (x : Node) (t : Parts) (b : Branch) → at_place (node_of l (world_by hd front))
+      (let w = world_by hd front in w.nodes) ≡ Some x → x.live ≡ Some t → branch_named l t.coord ≡ Some b → is_some b.ended ≡ false →
+      length (open_below (actor b.path) t.coord.tree ++ actor b.path ∷ [])
+      ≤ length (aborted_of p.lines (act_in (terms.acts p.lines) (name l)))
+  ends l x t b there live named opened =
+      let turned : lines.Turned hd form p (world_by hd front) = s.all.0.0.0 in
+      let base : shorts.Stands hd form p (world_by hd front) = turned.base in
+      let same = ties.same_lines hd form p (world_by hd front) s.all in
+      is_less (length (open_below (actor b.path) t.coord.tree ++ actor b.path ∷ []))
+      (length (aborted_of p.lines (act_in (terms.acts p.lines) (name l))))
+      (abort_many hd (world_by hd front) base.base.halts base.base.finds (node_of l (world_by hd front)) x there t live l b named opened
+      (subst (λ ls. AreInTurn (terms.acts ls)) same turned.turn)
+      (count_so hd (world_by hd front) base.next (node_of l (world_by hd front)) x there t live)
+      ∙ ap (λ ls. length (aborted_of ls (act_in (terms.acts ls) (name l)))) (sym same))
+    where
+      is_less : (a b : ℕ) → a ≡ b → a ≤ b
+      is_less a b is = omega (arith, is)
+
+  within : GoWithin hd.nodes (moved m (world_by hd front))
+  within = within_of hd form (moved m (world_by hd front)) (move_asked hd (AreAddressed hd) (kept hd form) m (world_by hd front)
+      (moves_asked hd (AreAddressed hd) (kept hd form) front))
+
   pub sends_few : SendsStep hd p (event_of m) bodies
-  sends_few = if_less (most_sent p.lines (event_of m)) (λ k. Adds k (world_by hd front) (moved m (world_by hd front)))
+  sends_few = if_less (most_sent hd p.lines (event_of m)) (λ k. Adds k (world_by hd front) (moved m (world_by hd front)))
       (λ k. last_frame (let q = next p (event_of m) bodies in q.lines) ≤ last_frame p.lines + k)
       (λ k le. subst (λ n. n ≤ last_frame p.lines + k) (sym behind_tells.last)
       (subst (λ n. length (let v = moved m (world_by hd front) in v.frames) ≤ n + k) (sym before_tells.last) le))
-      (moved_few p.lines (world_by hd front) before_tells.last before_tells.frames numbers m)
+      (moved_few hd p.lines (world_by hd front) before_tells.last before_tells.frames numbers nodes ups ends m within)
 
 -- so it is of each event of a run
 pub runs_send_few : RunsSendFew

@@ -1,6 +1,7 @@
 -- A run is over exactly where its journal has a limit.
 use Rattle.arj_law_parts.proofs.Words
-use Words.{◌≡◌, ◌∙◌, ◌-◌, ◌||◌, not, ℕ, zero, suc, Bool, true, false, cond, List, [], ◌∷◌, ◌++◌, length, refl, sym, ap, Option, Some, None}
+use Words.{◌≡◌, ◌∙◌, ◌+◌, ◌-◌, ◌||◌, not, arith, ℕ, zero, suc, Bool, true, false, cond, List, [], ◌∷◌, ◌++◌, length, refl, sym, ap}
+use Words.{Option, Some, None}
 use Words.{AllByRecursion, list_any-append, append-nil, Body, Event, Line, Arm, World, Frame, Giving, Input, Node, Step, Move}
 use Words.{at_place, at_number, armed, as_delivered, begins, change_frame, count_works, counted, cut, deliver, deliver_frame, disarmed, done_step}
 use Words.{first_reason, frame_number, giving, halted_at, happens, is_quiet, is_up_at, junk_fits, labels_unless, lacks_labels, limited, lose_frame}
@@ -250,5 +251,48 @@ module _ (m : Move) (w : World) (on : w.over ≡ false) (filled : IsFilled w) (b
           ∙ (λ i. cond (has i) (no_labels u) (limited (happens e arm t))))) (happens e arm t).full refl
 
       by : (o : Option ℕ) → first_reason (reasons e u) ≡ o → Same
-      by (Some c) refused = never (says (body.Refused c ∷ []) t) (now_is (says (body.Refused c ∷ []) t) (ap (run_unless e arm u) refused)) on
+      by (Some c) refused = never (says (body.Refused c ∷ []) t) (now_is (says (body.Refused c ∷ []) t) (ap
+          (run_unless e arm u) refused)) on
+      by None none = labels none (lacks_labels (giving e u) u) refl
+
+  -- where the event was run, and met the limit of frames, as many were sent as a run may send
+  pub over_full : (moved m w).over ≡ true → (moved m w).event ≡ w.event + 1 → length (moved m w).frames ≡ most_frames
+  over_full over counts = by (first_reason (reasons e u)) refl
+    where
+      Full : Type 0
+      Full = length (moved m w).frames ≡ most_frames
+
+      now_is : (x : World) → run_unless e arm u (first_reason (reasons e u)) ≡ x → moved m w ≡ record x { arms = [] }
+      now_is x is = ap (λ (y : World). record y { arms = [] }) ((λ i. cond (on i) u (run_unless e arm u (first_reason (reasons e u)))) ∙ is)
+
+      never : (x : World) → moved m w ≡ record x { arms = [] } → x.over ≡ false → Full
+      never x is free = let no_way : true ≡ false = sym over ∙ ap (λ (y : World). y.over) is ∙ free in absurd (cc no_way)
+
+      stays : (n : ℕ) → n ≡ n + 1 → ⊥
+      stays n is = omega (arith, is)
+
+      so : filling.So free are_free w.lines (happens e arm t)
+      so = filling.happens_so free are_free w.lines e arm t (λ b is. refl) (record {
+        more = [];
+        lines = sym (append-nil w.lines);
+        passes = tt;
+        filled = record { few = filled.few; full = filled.full };
+      })
+
+      run_so : moved m w ≡ record (limited (happens e arm t)) { arms = [] } → (b : Bool) → (happens e arm t).full ≡ b → Full
+      run_so is false fits = never (happens e arm t) (is ∙ (λ i. record (cond (fits i) (says (body.Limit which.Frames ∷ [])
+          (record (happens e arm t) { over = true })) (happens e arm t)) { arms = [] })) (happens_on e arm t ∙ on)
+      run_so is true met = ap (λ (y : World). length y.frames) (is ∙ (λ i. record (cond (met i) (says (body.Limit which.Frames ∷ [])
+          (record (happens e arm t) { over = true })) (happens e arm t)) { arms = [] })) ∙ so.filled.full met
+
+      labels : first_reason (reasons e u) ≡ None → (b : Bool) → lacks_labels (giving e u) u ≡ b → Full
+      labels none true lacks = let is = now_is (no_labels u) (ap (run_unless e arm u) none
+          ∙ (λ i. cond (lacks i) (no_labels u) (limited (happens e arm t)))) in
+          absurd (stays w.event (sym (ap (λ (y : World). y.event) is) ∙ counts))
+      labels none false has = run_so (now_is (limited (happens e arm t)) (ap (run_unless e arm u) none
+          ∙ (λ i. cond (has i) (no_labels u) (limited (happens e arm t))))) (happens e arm t).full refl
+
+      by : (o : Option ℕ) → first_reason (reasons e u) ≡ o → Full
+      by (Some c) refused = never (says (body.Refused c ∷ []) t) (now_is (says (body.Refused c ∷ []) t) (ap
+          (run_unless e arm u) refused)) on
       by None none = labels none (lacks_labels (giving e u) u) refl

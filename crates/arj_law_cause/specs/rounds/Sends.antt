@@ -1,5 +1,6 @@
--- How many frames an event sends at most that asks no more of actions than a call or an include, or delivers what is only answered.
-use Rattle.std.specs.Prelude.{◌≤◌, ◌+◌, ◌==◌, ◌&&◌, ◌||◌, not, ℕ, List, Bool, true, false, if◌then◌else◌, IfSome, Option, Some, None}
+-- How many frames an event sends at most: a call, an include, a commit, a giveup, an abort, and a delivery of any frame but a hello.
+use Rattle.std.specs.Prelude.{◌≤◌, ◌+◌, ◌-◌, ◌*◌, ◌==◌, ◌&&◌, ◌||◌, length, not, ℕ, List, Bool, true, false, if◌then◌else◌, IfSome}
+use Rattle.std.specs.Prelude.{Option, Some, None}
 use Rattle.arj_journal.specs.declared.body.Body.{Body}
 use Rattle.arj_journal.specs.declared.body.FrameKind.{FrameKind}
 use Rattle.arj_journal.specs.declared.body.FrameKind.TheVariants as frame
@@ -7,8 +8,11 @@ use Rattle.arj_journal.specs.declared.body.Line.{Line}
 use Rattle.arj_journal.specs.declared.event.Event.{Event}
 use Rattle.arj_journal.specs.declared.event.Event.TheVariants as event
 use Rattle.arj_journal.specs.declared.header.Header.{Header}
+use Rattle.arj_text.specs.Label.{name}
+use Rattle.arj_model.specs.Actions.{act_in, acts}
 use Rattle.arj_model.specs.CausePends.{frame_is}
 use Rattle.arj_model.specs.Follows.{Runs}
+use Rattle.arj_model.specs.Own.{aborted_of}
 use Rattle.arj_model.specs.Past.{Past, next}
 use Rattle.arj_model.specs.Refusals.{frame_no, last_frame}
 use Rattle.arj_law_runs.specs.follow.Frames.{run_events}
@@ -45,28 +49,61 @@ is_answered _ = false
 abbrev pub is_answered_frame : List Line → ℕ → Bool
 is_answered_frame lines k = frame_is (λ from to what. is_answered what && not (from == to)) lines k
 
--- How many frames the event sends at most, where these lines stand before it: one where it calls or includes, delivers a request or an
--- answer of a call or an include, or to another node a request of a commit, an end or a question, or hands over bytes; of those by which an
--- action commits, aborts or gives up, of a tick, a restart, a settle, a quiesce and of other deliveries nothing is said; and none where it
--- is any other.
-abbrev pub most_sent : List Line → Event → Option ℕ
-most_sent lines (event.Call l x op) = Some 1
-most_sent lines (event.Include l x n) = Some 1
-most_sent lines (event.Deliver k) =
-    if is_call_frame lines (frame_no lines k) || is_answered_frame lines (frame_no lines k) then Some 1 else None
-most_sent lines (event.Junk n bytes) = Some 1
-most_sent lines (event.Commit l) = None
-most_sent lines (event.Abort l) = None
-most_sent lines (event.GiveUp l) = None
-most_sent lines (event.Tick n) = None
-most_sent lines (event.Restart n) = None
-most_sent lines event.Settle = None
-most_sent lines event.Quiesce = None
-most_sent lines e = Some 0
+-- an answer to a Prepare or a Confirm
+abbrev pub is_prepared : FrameKind → Bool
+is_prepared frame.Prepared = true
+is_prepared frame.Confirmed = true
+is_prepared _ = false
+
+-- an acknowledgement
+abbrev pub is_acked : FrameKind → Bool
+is_acked frame.Acked = true
+is_acked _ = false
+
+-- a node is greeted
+abbrev pub is_hello : FrameKind → Bool
+is_hello frame.Hello = true
+is_hello _ = false
+
+-- the frame of this number carries such a message
+abbrev pub carries : (FrameKind → Bool) → List Line → ℕ → Bool
+carries test lines k = frame_is (λ from to what. test what) lines k
+
+-- how many nodes there are beside one
+abbrev pub others : Header → ℕ
+others hd = hd.nodes - 1
+
+-- So many at most by whom the frame of this number is delivered: one where it is a request or an answer of a call or an include, or to
+-- another node a request of a commit, an end or a question; of an acknowledgement one to each other node, as the end of a serializing
+-- action may be told; of an answer to a Prepare or a Confirm two, as before that the commit may be decided; of a hello nothing is said;
+-- and of any other three, as behind an answer to a Vote the commit may ask each first.
+abbrev pub most_delivered : Header → List Line → ℕ → Option ℕ
+most_delivered hd lines k =
+    if is_call_frame lines k || is_answered_frame lines k then Some 1
+    else (if carries is_acked lines k then Some (others hd)
+    else (if carries is_prepared lines k then Some (2 * others hd)
+    else (if carries is_hello lines k then None else Some (3 * others hd))))
+
+-- How many frames the event sends at most, where these lines stand before it: one where it calls or includes, or hands over bytes; what a
+-- delivery may; to each other node four where an action commits, two where it is given up, and one for each open action that an abort ends;
+-- of a tick, a restart, a settle and a quiesce nothing is said; and none where it is any other.
+abbrev pub most_sent : Header → List Line → Event → Option ℕ
+most_sent hd lines (event.Call l x op) = Some 1
+most_sent hd lines (event.Include l x n) = Some 1
+most_sent hd lines (event.Deliver k) = most_delivered hd lines (frame_no lines k)
+most_sent hd lines (event.Junk n bytes) = Some 1
+most_sent hd lines (event.Commit l) = Some (4 * others hd)
+most_sent hd lines (event.Abort l) = Some (length (aborted_of lines (act_in (acts lines) (name l))) * others hd)
+most_sent hd lines (event.GiveUp l) = Some (2 * others hd)
+most_sent hd lines (event.Tick n) = None
+most_sent hd lines (event.Restart n) = None
+most_sent hd lines event.Settle = None
+most_sent hd lines event.Quiesce = None
+most_sent hd lines e = Some 0
 
 -- so many at most are sent in it, by the numbers of the last frames before it and behind it
 abbrev pub SendsStep : Header → Past → Event → List Body → Type 0
-SendsStep hd past e bodies = IfSome (most_sent past.lines e) (λ k. last_frame (next past e bodies).lines ≤ last_frame past.lines + k)
+SendsStep hd past e bodies = IfSome (most_sent hd past.lines e) (λ k. last_frame (next past e bodies).lines ≤ last_frame past.lines + k)
 
 -- so it is of each event of a run
 abbrev pub RunsSendFew : Type 0

@@ -7,6 +7,7 @@ use Rattle.arj_journal.specs.declared.header.Header.{Header}
 use Rattle.arj_model.specs.Follows.{Follows, Runs}
 use Rattle.arj_start.specs.Start.{Start}
 use Rattle.arj_law_cause.specs.rounds.Alone.{AloneStep}
+use Rattle.arj_law_cause.specs.rounds.Fits.{FewFit}
 use Rattle.arj_law_cause.specs.rounds.Quiesces.{QuiescesStep}
 use Rattle.arj_law_cause.specs.rounds.Rounds.{EndsRounds}
 use Rattle.arj_law_cause.specs.rounds.Sends.{SendsStep}
@@ -21,9 +22,10 @@ pub record TellsQuiesces (hd : Header) (st : Start) (es : List Event) (journal :
   pub rounds : EndsRounds hd st es journal
   -- on one node nobody waits for a quiesce: what is asked is answered in its own event
   pub alone : Runs (AloneStep hd) st es journal
-  -- a call or an include sends one frame at most, and so does a delivery of a request or an answer of one, of a request of a commit, of
-  -- an end and of a question
+  -- an event sends so many frames at most, but for ticks, restarts, settles, quiesces and deliveries of a hello
   pub sends : Runs (SendsStep hd) st es journal
+  -- few events, none of them a tick, a restart, a settle or a quiesce, meet no limit of frames
+  pub fits : FewFit es journal
 
 -- All of this, and what each event writes.
 pub record TellsItsCauses (hd : Header) (st : Start) (es : List Event) (journal : List Line) : Type 0 where

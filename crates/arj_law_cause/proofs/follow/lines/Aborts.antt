@@ -1,5 +1,6 @@
 -- An abort ends the open actions below its own and then that one, the newest first, as the journal has them.
 use Rattle.arj_law_parts.proofs.Words
+use Words.{length-map}
 use Words.{◌≡◌, ◌⊎◌, ◌∙◌, ◌≤◌, ◌<◌, ◌+◌, ◌==◌, ◌&&◌, ◌||◌, not, ℕ, zero, suc, Bool, true, false, cond, List, [], ◌∷◌, ◌++◌, filter}
 use Words.{length, map, refl, sym, ap, subst, arith, nat_tests, inl, inr, ⊎_elim, Option, Some, None, is_some, In, append_assoc}
 use Words.{append-nil, and_parts, eqb-true, filter-append, map-append, slice_get, in_filter, is_on, uid_eq, uid_is, uid_same, name, actor}
@@ -577,3 +578,13 @@ module _ (hd : Header) (w : World) (h : Holds hd KnowsAll w) (f : Holds hd Knows
           by : (d : Doing) → at_place (number_of a) t.coord.doings ≡ Some d → a.label ≡ name d.label → name z ≡ a.label
           by d does same =
               ap name (some_is z d.label (sym at ∙ of_place (λ (e : Doing). e.label) t.coord.doings (number_of a) d does)) ∙ sym same
+
+  -- and how many they are
+  pub abort_many : length (open_below (actor b.path) t.coord.tree ++ actor b.path ∷ []) ≡ length (aborted_of w.lines (act_in xs (name l)))
+  abort_many = ap (λ v. length (open_below v t.coord.tree ++ v ∷ [])) actor_is
+      ∙ sym (length-map us (λ (v : Uid). v.num))
+      ∙ ap (λ (ns : List ℕ). length ns) (sym (ends_numbers ∙ split ∙ sym us_numbers))
+      ∙ length-map (filter ends xs) number_of
+      ∙ ap (λ (as_begun : List Act). length as_begun)
+      (sym (aborted_so w.lines xs (apart hd w h f) top one.among xs (apart hd w h f) (λ c i. i)))
+      ∙ ap (λ o. length (aborted_of w.lines o)) (sym found)

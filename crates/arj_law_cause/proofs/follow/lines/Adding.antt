@@ -22,7 +22,7 @@ use Rattle.arj_law_runs.proofs.follow.Shorts as shorts
 use Rattle.arj_law_runs.proofs.follow.Telling.{frame_test}
 use Rattle.arj_law_runs.proofs.follow.Walking.{AreFor}
 use Rattle.arj_law_cause.proofs.follow.causes.{Reasons.Finds, Standing.IsOne, Standing.its_uid, Standing.named_one, Standing.own_number}
-use Rattle.arj_law_runs.proofs.follow.Uids.{count_of}
+use Rattle.arj_law_runs.proofs.follow.Uids.{KnowsNext, count_of}
 use Rattle.arj_law_cause.proofs.follow.lines.{Aborts.abort_lines, Numbers.AreInTurn, Saying.say_all}
 use Rattle.arj_law_cause.proofs.follow.lines.Rising.{KnowsRising}
 use Rattle.arj_law_cause.proofs.follow.lines.Saying
@@ -40,6 +40,15 @@ use Rattle.arj_promise.specs.Runs.{IsStoppedInForm}
 use Rattle.arj_protocol.specs.World as world
 use Rattle.arj_law_cause.proofs.follow.lines.Labels.{label_is, receiver_is, to_node}
 use Rattle.arj_law_cause.proofs.follow.lines.Several.{node_adds, tick_of}
+
+-- a coordinator has as many actions as the journal has of its incarnation
+pub count_so : (hd : Header) (w : World) (next : Holds hd KnowsNext w) (k : ℕ) (n : Node) → at_place k w.nodes ≡ Some n → (v : Parts) →
+    n.live ≡ Some v → count_of v.coord.tree.node v.coord.tree.inc (terms.acts w.lines) ≡ length v.coord.tree.branches
+count_so hd w next k n there v live = (λ i. count_of (its.node i) (its.inc i) (terms.acts w.lines)) ∙ ((next.holds.1 k n there).1 v live).1
+  where
+    its : (let good = next.holds.0.0.0 in IsUp good.0 next.sent w.labels k (let d = n.disk in d.inc) v)
+    its = let good = next.holds.0.0.0 in let place = good.1.places k n there in
+        subst (IsMemory good.0 next.sent w.labels k (let d = n.disk in d.inc)) live place.memory
 
 module _ (hd : Header) (form : HeaderInForm hd) where
   module _ (m : Move) (p : Past) (w : World) (stops : IsStoppedInForm m) (s : shorts.Stands hd form p w) (on : w.over ≡ false) where
@@ -212,14 +221,8 @@ module _ (hd : Header) (form : HeaderInForm hd) where
         (abort_tells at q.node q.parts (AreAbortedOf l) (let b = q.branch in actor b.path) (let k = q.node in let d = k.disk in d.intents)
         r.0 r.1 (subst (λ ls. own.AreAborted (own.aborted_of ls (act_in (terms.acts ls) (name l))) r.0) (sym base.lines) r.2)))
       where
-        its : (let good = s.next.holds.0.0.0 in IsUp good.0 s.next.sent w.labels (node_of l t)
-            (let k = q.node in let d = k.disk in d.inc) q.parts)
-        its = let good = s.next.holds.0.0.0 in let place = good.1.places (node_of l t) q.node q.there in
-            subst (IsMemory good.0 s.next.sent w.labels (node_of l t) (let k = q.node in let d = k.disk in d.inc)) q.live place.memory
-
         count : (let v = q.parts in count_of v.coord.tree.node v.coord.tree.inc (terms.acts w.lines) ≡ length v.coord.tree.branches)
-        count = (λ i. count_of (its.node i) (its.inc i) (terms.acts w.lines)) ∙ ((s.next.holds.1
-            (node_of l t) q.node q.there).1 q.parts q.live).1
+        count = count_so hd w s.next (node_of l t) q.node q.there q.parts q.live
 
         r : (own_lines : List Body) × ((let b = q.branch in let v = q.parts in Words.all_aborted (Words.open_below
             (actor b.path) v.coord.tree

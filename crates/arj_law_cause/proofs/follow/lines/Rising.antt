@@ -30,7 +30,7 @@ AreRising c = (u : Uid) (d : Doing) → doing_of u c ≡ Some d → IsRising d.n
 abbrev Its : Uid → Doing → Type 0
 Its u d = IsRising d.now
 
-without_up : (n : ℕ) (ns : List ℕ) → AreUp ns → AreUp (without_number n ns)
+pub without_up : (n : ℕ) (ns : List ℕ) → AreUp ns → AreUp (without_number n ns)
 without_up n [] up = tt
 without_up n (m ∷ ms) up = by (m == n) (without_up n ms up.1)
   where
@@ -63,7 +63,7 @@ left_up : {c : Coord} {came : Came} {u : Uid} {p : Plan} {left : List ℕ} → A
 left_up n (NewPlan l b intents named) = tt
 left_up n (OldPlan u d m found is) = (subst IsRising is (n u d found)).0
 
-rises : {c : Coord} {came : Came} {e : Coord} {outs : List Effect} → AreRising c → Trace c came c outs e → AreRising e
+pub rises : {c : Coord} {came : Came} {e : Coord} {outs : List Effect} → AreRising c → Trace c came c outs e → AreRising e
 rises {c} {came} n t = trace_keeps AreRising (works_move Its keeps) t n
   where
     keeps : KeepsWorks Its c came

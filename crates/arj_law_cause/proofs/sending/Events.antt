@@ -1,0 +1,251 @@
+-- How many frames an event sends to each other node: of a commit, an abort and a giveup, and of the delivery of an answer in a commit or of
+-- an acknowledgement.
+use Rattle.arj_law_parts.proofs.Words
+use Words.{◌≡◌, ◌≤◌, ◌<◌, ◌∙◌, ◌+◌, ◌-◌, ◌==◌, ◌++◌, ℕ, Bool, true, false, cond, List, [], ◌∷◌, length, refl, sym, ap, subst, arith}
+use Words.{and_parts, list_all}
+use Words.{Option, Some, None, Header, Label, Message, Branch, Did, Disk, Do, Effect, Say, Send, Handled, Parts, Ran, Took, Void, Coord}
+use Words.{Uid}
+use Words.{actor, acts, branch_named, commit_action, give_up, abort_action, on_branch, open_below, taken, taken_took, with_coord, whole}
+use Words.{Input, Node}
+use Words.{Step, at_place, coord_did, handled_step, node_did, refusal, step, step_down, step_of, step_unless, step_up, Frame, World}
+use Words.{as_delivered, change_frame, deliver, deliver_frame, frame_kind, node_of, steps, Look, PutInc, Prepare, Commit, Abort, PutIntent}
+use Words.{RemoveIntent, is_some, ◌||◌, refused_by}
+use Words.body
+use Words.input
+use Words.message
+use Rattle.arj_journal.specs.declared.body.FrameKind.{FrameKind}
+use Rattle.arj_law_parts.proofs.moves.Places.{set_long}
+use Rattle.arj_law_parts.proofs.moves.Reasons.{first_not}
+use Rattle.arj_law_parts.proofs.moves.Rounds.{AreLooks, LooksAlone, taken_looks}
+use Rattle.arj_law_runs.proofs.bindings.Handled.{outs_of}
+use Rattle.arj_law_runs.proofs.follow.Telling.{carried_by, frame_test}
+use Rattle.arj_law_runs.specs.addresses.Addresses.{GoWithin, IsNode}
+use Rattle.arj_law_cause.proofs.sending.Counted.{FewTo, each, step_adds}
+use Rattle.arj_law_cause.proofs.sending.Ordered.{AllPut, UpCoord, UpNode, acts_up, message_up}
+use Rattle.arj_law_cause.proofs.sending.Handlers.{abort_mass, commit_mass, giveup_mass, taken_mass}
+use Rattle.arj_law_cause.proofs.sending.Weights.{mass, own}
+use Rattle.arj_law_cause.proofs.sending.Wholes.{sent_to, whole_to}
+use Rattle.arj_law_cause.specs.rounds.Sends.{is_acked, is_hello, is_prepared}
+
+-- ---- a step
+
+-- none to the node itself
+but_own : (j k c a : ℕ) → a ≤ c → ((j == k) ≡ true → a ≡ 0) → a ≤ cond (j == k) 0 c
+but_own j k c a le none = by (j == k) refl
+  where
+    low : a ≡ 0 → a ≤ 0
+    low is = omega (arith, is)
+
+    by : (b : Bool) → (j == k) ≡ b → a ≤ cond b 0 c
+    by true is = low (none is)
+    by false is = le
+
+least : (a : ℕ) → 0 ≤ a
+least a = omega arith
+
+-- of a node's step, which it refuses, or takes down or up
+step_few : (hd : Header) (j c : ℕ) (i : Input) (n : Node) → FewTo j c (step_down hd i n) → ((t : Parts) → n.live ≡ Some t →
+    refusal hd i n ≡ None → FewTo j c (step_up i n t)) → FewTo j c (step hd n i)
+step_few hd j c i n down up = by (refusal hd i n) refl
+  where
+    live : (o : Option Parts) → n.live ≡ o → refusal hd i n ≡ None → FewTo j c (step_of hd i n o)
+    live None is free = down
+    live (Some t) is free = up t is free
+
+    by : (r : Option ℕ) → refusal hd i n ≡ r → FewTo j c (step_unless hd i n r)
+    by (Some k) is = (least c, least c)
+    by None is = live n.live refl is
+
+module _ (k c : ℕ) (n : Node) (number : n.number ≡ k) (up : UpNode n) where
+  -- of whole steps
+  whole_few : (j : ℕ) (t : Parts) (outs : List Effect) → UpCoord t.coord → AllPut outs → mass k j (c + 1) outs ≤ c →
+      sent_to j (whole n.number t outs n.disk).outs ≤ cond (j == k) 0 c
+  whole_few j t outs so puts few = subst (λ z. sent_to j (whole z t outs n.disk).outs ≤ cond (j == k) 0 c) (sym number)
+      (let w = whole_to k j c t outs n.disk so up.0 puts few in but_own j k c (sent_to j (whole k t outs n.disk).outs) w.0 w.1)
+
+  -- of what the script asks of an action
+  acts_few : (j : ℕ) (i : Input) (t : Parts) → n.live ≡ Some t →
+      mass k j (c + 1) (acts i (let d = n.disk in d.intents) t.coord).outs ≤ c →
+      FewTo j (cond (j == k) 0 c) (coord_did n t (acts i (let d = n.disk in d.intents) t.coord))
+  acts_few j i t live few =
+      let did = acts i (let d = n.disk in d.intents) t.coord in
+      let so = acts_up i (let d = n.disk in d.intents) t.coord (up.1 t live) in
+      let all = whole_few j (with_coord t did.part) did.outs so.0 so.1 few in
+      (all, all)
+
+  -- of a message
+  looks_to : (j : ℕ) (es : List Effect) → AreLooks es → sent_to j es ≡ 0
+  looks_to j [] looks = refl
+  looks_to j (Do Look ∷ es) looks = looks_to j es looks
+  looks_to j (Do (PutInc i) ∷ es) looks = absurd (cc looks)
+  looks_to j (Do (Prepare r u s) ∷ es) looks = absurd (cc looks)
+  looks_to j (Do (Commit r u) ∷ es) looks = absurd (cc looks)
+  looks_to j (Do (Abort r u) ∷ es) looks = absurd (cc looks)
+  looks_to j (Do (PutIntent u i) ∷ es) looks = absurd (cc looks)
+  looks_to j (Do (RemoveIntent u) ∷ es) looks = absurd (cc looks)
+  looks_to j (Say b ∷ es) looks = absurd (cc looks)
+  looks_to j (Send to m ∷ es) looks = absurd (cc looks)
+
+  void_to : (j f : ℕ) (es : List Effect) → AreLooks es → sent_to j (es ++ Say (body.Void f) ∷ []) ≡ 0
+  void_to j f [] looks = refl
+  void_to j f (Do Look ∷ es) looks = void_to j f es looks
+  void_to j f (Do (PutInc i) ∷ es) looks = absurd (cc looks)
+  void_to j f (Do (Prepare r u s) ∷ es) looks = absurd (cc looks)
+  void_to j f (Do (Commit r u) ∷ es) looks = absurd (cc looks)
+  void_to j f (Do (Abort r u) ∷ es) looks = absurd (cc looks)
+  void_to j f (Do (PutIntent u i) ∷ es) looks = absurd (cc looks)
+  void_to j f (Do (RemoveIntent u) ∷ es) looks = absurd (cc looks)
+  void_to j f (Say b ∷ es) looks = absurd (cc looks)
+  void_to j f (Send to m ∷ es) looks = absurd (cc looks)
+
+  frame_few : (j f from : ℕ) (m : Message) (t : Parts) → n.live ≡ Some t → own k j (c + 1) m ≤ c →
+      FewTo j (cond (j == k) 0 c) (step_up (input.Frame f from (Some m)) n t)
+  frame_few j f from m t live few = by (taken n.number n.disk t from m) refl
+      (taken_mass k j (c + 1) from n.number n.disk t (up.1 t live) up.0 m (below (own k j (c + 1) m) few))
+    where
+      below : (a : ℕ) → a ≤ c → a < c + 1
+      below a le = omega (arith, le)
+
+      low : (a b : ℕ) → a ≡ 0 → a ≤ b
+      low a b is = omega (arith, is)
+
+      less : (a b : ℕ) → a ≤ b → b ≤ c → a ≤ c
+      less a b x y = omega (arith, x, y)
+
+      by : (r : Handled) → taken n.number n.disk t from m ≡ r → mass k j (c + 1) (outs_of r) ≤ own k j (c + 1) m →
+          FewTo j (cond (j == k) 0 c) (handled_step f n r)
+      by (Void outs) is le =
+          let looks = subst LooksAlone is (taken_looks n.number n.disk t from m) in (
+            low (sent_to j (outs ++ Say (body.Void f) ∷ [])) (cond (j == k) 0 c) (void_to j f outs looks),
+            low (sent_to j outs) (cond (j == k) 0 c) (looks_to j outs looks),
+          )
+      by (Took v outs) is le =
+          let so = message_up n.number n.disk t v from m outs (taken_took n.number n.disk t v from m outs is) (up.1 t live) in
+          let all = whole_few j v outs so.0 so.1 (less (mass k j (c + 1) outs) (own k j (c + 1) m) le few) in (all, all)
+
+-- ---- events
+
+module _ (hd : Header) (w : World) (nodes : (n : ℕ) (x : Node) → at_place n w.nodes ≡ Some x → IsNode hd n)
+    (numbers : (n : ℕ) (x : Node) → at_place n w.nodes ≡ Some x → x.number ≡ n)
+    (ups : (n : ℕ) (x : Node) → at_place n w.nodes ≡ Some x → UpNode x) where
+  -- so many are added at most for each other node
+  abbrev pub AddsEach : ℕ → World → Type 0
+  AddsEach c v = GoWithin hd.nodes v → length v.frames ≤ length w.frames + each c (hd.nodes - 1)
+
+  pub commit_adds : (l : Label) → AddsEach 4 (steps (node_of l w) (input.Commit l) w)
+  commit_adds l within = step_adds hd 4 (node_of l w) (input.Commit l) w (nodes (node_of l w)) within (λ j n there.
+      step_few w.header j (cond (j == node_of l w) 0 4) (input.Commit l) n (least _, least _) (λ t live free.
+      acts_few (node_of l w) 4 n (numbers (node_of l w) n there) (ups (node_of l w) n there) j (input.Commit l) t live
+      (by j (let d = n.disk in d.intents) t.coord (branch_named l t.coord))))
+    where
+      by : (j : ℕ) (intents : List (Uid × Words.Intent)) (c : Coord) (o : Option Branch) →
+          mass (node_of l w) j 5 (on_branch (λ b. commit_action b intents c) c o).outs ≤ 4
+      by j intents c None = omega arith
+      by j intents c (Some b) = commit_mass (node_of l w) j 5 b intents c
+
+  pub giveup_adds : (l : Label) → AddsEach 2 (steps (node_of l w) (input.GiveUp l) w)
+  giveup_adds l within = step_adds hd 2 (node_of l w) (input.GiveUp l) w (nodes (node_of l w)) within (λ j n there.
+      step_few w.header j (cond (j == node_of l w) 0 2) (input.GiveUp l) n (least _, least _) (λ t live free.
+      acts_few (node_of l w) 2 n (numbers (node_of l w) n there) (ups (node_of l w) n there) j (input.GiveUp l) t live
+      (by j (let d = n.disk in d.intents) t.coord ((ups (node_of l w) n there).1 t live) (branch_named l t.coord))))
+    where
+      by : (j : ℕ) (intents : List (Uid × Words.Intent)) (c : Coord) → UpCoord c → (o : Option Branch) →
+          mass (node_of l w) j 3 (on_branch (λ b. give_up (actor b.path) intents c) c o).outs ≤ 2
+      by j intents c up None = omega arith
+      by j intents c up (Some b) = giveup_mass (node_of l w) j 3 (actor b.path) intents c up
+
+  -- as many as it ends
+  pub abort_adds : (l : Label) (c : ℕ) → ((n : Node) (t : Parts) (b : Branch) → at_place (node_of l w) w.nodes ≡ Some n → n.live ≡ Some t →
+      branch_named l t.coord ≡ Some b → is_some b.ended ≡ false →
+      length (open_below (actor b.path) t.coord.tree ++ actor b.path ∷ []) ≤ c) →
+      AddsEach c (steps (node_of l w) (input.Abort l) w)
+  abort_adds l c few within = step_adds hd c (node_of l w) (input.Abort l) w (nodes (node_of l w)) within (λ j n there.
+      step_few w.header j (cond (j == node_of l w) 0 c) (input.Abort l) n (least _, least _) (λ t live free.
+      acts_few (node_of l w) c n (numbers (node_of l w) n there) (ups (node_of l w) n there) j (input.Abort l) t live
+      (by j n t there live free (branch_named l t.coord) refl)))
+    where
+      less : (a b : ℕ) → a ≤ b → b ≤ c → a ≤ c
+      less a b x y = omega (arith, x, y)
+
+      by : (j : ℕ) (n : Node) (t : Parts) → at_place (node_of l w) w.nodes ≡ Some n → n.live ≡ Some t →
+          refusal w.header (input.Abort l) n ≡ None → (o : Option Branch) → branch_named l t.coord ≡ o
+          → mass (node_of l w) j (c + 1) (on_branch (λ b. abort_action (actor b.path)
+          (let d = n.disk in d.intents) t.coord) t.coord o).outs ≤ c
+      by j n t there live free None none = least c
+      by j n t there live free (Some b) named = less
+          (mass (node_of l w) j (c + 1) (abort_action (actor b.path) (let d = n.disk in d.intents) t.coord).outs)
+          (length (open_below (actor b.path) t.coord.tree ++ actor b.path ∷ []))
+          (abort_mass (node_of l w) j (c + 1) (actor b.path) (let d = n.disk in d.intents) t.coord) (few n t b there live named opened)
+        where
+          opened : is_some b.ended ≡ false
+          opened = (first_not 6 (is_some b.ended) ((7, Words.waits_above b t.coord || Words.waits_below b t.coord) ∷ [])
+              (ap (refused_by Words.abort_reasons t.coord) (sym named) ∙ sym (ap (input.refusal_at w.header (input.Abort l)) live)
+              ∙ free)).0
+
+  -- ---- deliveries
+
+  -- of a message that leads to so many
+  deliver_adds : (c f : ℕ) → ((x : Frame) (m : Message) → at_place f w.frames ≡ Some x → x.message ≡ Some m → (k j i : ℕ) →
+      own k j i m ≤ c) →
+      AddsEach c (deliver f w)
+  deliver_adds c f weighs = by (at_place f w.frames) refl
+    where
+      stays : (a b : ℕ) → a ≤ a + b
+      stays a b = omega arith
+
+      carried : (x : Frame) → at_place f w.frames ≡ Some x → (o : Option Message) → x.message ≡ o →
+          AddsEach c (steps x.to (input.Frame f x.from o) (change_frame f as_delivered x w))
+      carried x there o is within =
+          subst (λ a. length (steps x.to (input.Frame f x.from o) v).frames ≤ a + each c (hd.nodes - 1))
+          (set_long f (as_delivered x) w.frames)
+          (step_adds hd c x.to (input.Frame f x.from o) v (nodes x.to) within (λ j n at.
+          step_few w.header j (cond (j == x.to) 0 c) (input.Frame f x.from o) n (least _, least _) (λ t live free. few j n at t live o is)))
+        where
+          v : World
+          v = change_frame f as_delivered x w
+
+          few : (j : ℕ) (n : Node) → at_place x.to w.nodes ≡ Some n → (t : Parts) → n.live ≡ Some t → (o : Option Message) → x.message ≡ o →
+              FewTo j (cond (j == x.to) 0 c) (step_up (input.Frame f x.from o) n t)
+          few j n at t live None is = (least _, least _)
+          few j n at t live (Some m) is =
+              frame_few x.to c n (numbers x.to n at) (ups x.to n at) j f x.from m t live (weighs x m there is x.to j (c + 1))
+
+      by : (o : Option Frame) → at_place f w.frames ≡ o → AddsEach c (deliver_frame f w o)
+      by None none = λ within. stays (length w.frames) (each c (hd.nodes - 1))
+      by (Some x) there = carried x there x.message refl
+
+  -- of a frame of which this holds
+  kind_so : (f : ℕ) (test : FrameKind → Bool) (b : Bool) → frame_test (λ from to what. test what) (at_place f w.frames) ≡ b → (x : Frame)
+      (m : Message) → at_place f w.frames ≡ Some x → x.message ≡ Some m → test (frame_kind m) ≡ b
+  kind_so f test b is x m there carries = ap (λ (o : Option Message). test (carried_by o)) (sym carries)
+      ∙ ap (frame_test (λ from to what. test what)) (sym there) ∙ is
+
+  -- an acknowledgement
+  pub acked_adds : (f : ℕ) → frame_test (λ from to what. is_acked what) (at_place f w.frames) ≡ true → AddsEach 1 (deliver f w)
+  acked_adds f is = deliver_adds 1 f (λ x m there carries. weighs m (kind_so f is_acked true is x m there carries))
+    where
+      weighs : (m : Message) → is_acked (frame_kind m) ≡ true → (k j i : ℕ) → own k j i m ≤ 1
+      weighs (message.Acked x) is k j i = omega arith
+      weighs m is k j i = absurd (cc is)
+
+  -- an answer to a Prepare or a Confirm
+  pub prepared_adds : (f : ℕ) → frame_test (λ from to what. is_prepared what) (at_place f w.frames) ≡ true → AddsEach 2 (deliver f w)
+  prepared_adds f is = deliver_adds 2 f (λ x m there carries. weighs m (kind_so f is_prepared true is x m there carries))
+    where
+      weighs : (m : Message) → is_prepared (frame_kind m) ≡ true → (k j i : ℕ) → own k j i m ≤ 2
+      weighs (message.Prepared x) is k j i = omega arith
+      weighs (message.Confirmed x) is k j i = omega arith
+      weighs m is k j i = absurd (cc is)
+
+  -- any other but a hello
+  pub other_adds : (f : ℕ) → frame_test (λ from to what. is_hello what) (at_place f w.frames) ≡ false → AddsEach 3 (deliver f w)
+  other_adds f is = deliver_adds 3 f (λ x m there carries. weighs m (kind_so f is_hello false is x m there carries))
+    where
+      flag : (b : Bool) → cond b 1 0 ≤ 3
+      flag true = omega arith
+      flag false = omega arith
+
+      weighs : (m : Message) → is_hello (frame_kind m) ≡ false → (k j i : ℕ) → own k j i m ≤ 3
+      weighs (message.Hello x) is k j i = absurd (cc is)
+      weighs (message.Told x) is k j i = flag x.ack
+      weighs m is k j i = omega arith
