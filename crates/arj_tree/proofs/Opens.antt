@@ -1,12 +1,13 @@
 -- The open actions as actions begin, end and are doomed, and what is asked of them alone.
-use Rattle.std.proofs.Common.{◌≡◌, ℕ, ◌+◌, ◌<◌, zero, suc, List, [], ◌∷◌, ◌++◌, length, filter, not, ◌&&◌, ◌==◌, Bool, true, false, refl}
+use Rattle.std.proofs.Common.{◌≡◌, ℕ, ◌+◌, ◌<◌, ◌≤◌, nat_eq, zero, suc, List, [], ◌∷◌, ◌++◌, length, filter, not, ◌&&◌, Bool, true, false, refl}
 use Rattle.std.proofs.Common.{ap, sym, ◌∙◌, Option, Some, None, arith, append_assoc, append-nil, add-zero, ◌||◌, is_some, if◌then◌else◌}
 use Rattle.std.specs.Prelude.{slice_get, slice_set}
 use Rattle.std.specs.List.{list_any}
 use Rattle.arj_protocol.specs.Ask.{actor}
 use Rattle.arj_protocol.specs.Tree.{Branch, is_open_below, is_parent, latest_first}
-use Rattle.arj_protocol.specs.Words.{Uid, End, uids_of, before_last}
-use Rattle.arj_tree.specs.Open.{opens, without, is_path_below, below, latest, has_child, first_in}
+use Rattle.arj_protocol.specs.Words.{Uid, Path, End, uids_of, before_last}
+use Rattle.indexmap.specs.IndexMap.{insert_entry, shift_remove_entry}
+use Rattle.arj_tree.specs.Open.{Opens, opens, is_path_below, below, latest, has_child, first_in}
 
 -- an action that begins is the last one
 pub opens_begun : (n : ℕ) (bs : List Branch) (b : Branch) → b.ended ≡ None →
@@ -22,48 +23,62 @@ opens_begun n (c ∷ bs) b open_now = by (is_some c.ended) (opens_begun (n + 1) 
     by true ih = ih ∙ ap (λ k. opens (n + 1) bs ++ (k, b.path) ∷ []) place
     by false ih = ap (λ es. (n, c.path) ∷ es) (ih ∙ ap (λ k. opens (n + 1) bs ++ (k, b.path) ∷ []) place)
 
--- a number below those of all actions takes none out
-without_below : (m n : ℕ) (bs : List Branch) → m < n → without m (opens n bs) ≡ opens n bs
-without_below m n [] less = refl
-without_below m n (b ∷ bs) less = by (is_some b.ended) (without_below m (n + 1) bs (omega (arith, less)))
+-- an action whose number is above those of all others goes last
+pub inserted_last : (m n : ℕ) (p : Path) (bs : List Branch) → n + length bs ≤ m →
+    insert_entry nat_eq (opens n bs) m p ≡ opens n bs ++ (m, p) ∷ []
+inserted_last m n p [] within = refl
+inserted_last m n p (b ∷ bs) within = by (is_some b.ended) (inserted_last m (n + 1) p bs (omega (arith, within)))
   where
-    other : (n == m) ≡ false
+    other : nat_eq m n ≡ false
+    other = grind (arith, within)
+
+    by : (t : Bool) → insert_entry nat_eq (opens (n + 1) bs) m p ≡ opens (n + 1) bs ++ (m, p) ∷ [] →
+        insert_entry nat_eq (if t then opens (n + 1) bs else (n, b.path) ∷ opens (n + 1) bs) m p ≡ (if t then opens (n + 1) bs else (n, b.path) ∷ opens (n + 1) bs) ++ (m, p) ∷ []
+    by true ih = ih
+    by false ih = rw other (ap (λ es. (n, b.path) ∷ es) ih)
+
+-- a number below those of all actions takes none out
+removed_below : (m n : ℕ) (bs : List Branch) → m < n → shift_remove_entry (nat_eq m) (opens n bs) ≡ opens n bs
+removed_below m n [] less = refl
+removed_below m n (b ∷ bs) less = by (is_some b.ended) (removed_below m (n + 1) bs (omega (arith, less)))
+  where
+    other : nat_eq m n ≡ false
     other = grind (arith, less)
 
-    by : (t : Bool) → without m (opens (n + 1) bs) ≡ opens (n + 1) bs →
-        without m (if t then opens (n + 1) bs else (n, b.path) ∷ opens (n + 1) bs) ≡ (if t then opens (n + 1) bs else (n, b.path) ∷ opens (n + 1) bs)
+    by : (t : Bool) → shift_remove_entry (nat_eq m) (opens (n + 1) bs) ≡ opens (n + 1) bs →
+        shift_remove_entry (nat_eq m) (if t then opens (n + 1) bs else (n, b.path) ∷ opens (n + 1) bs) ≡ (if t then opens (n + 1) bs else (n, b.path) ∷ opens (n + 1) bs)
     by true ih = ih
     by false ih = rw other (ap (λ es. (n, b.path) ∷ es) ih)
 
 -- an action that ends goes
 pub opens_ended : (n k : ℕ) (bs : List Branch) (b : Branch) (e : End) → slice_get bs k ≡ Some b →
-    opens n (slice_set bs k (record b { ended = Some e })) ≡ without (n + k) (opens n bs)
+    opens n (slice_set bs k (record b { ended = Some e })) ≡ shift_remove_entry (nat_eq (n + k)) (opens n bs)
 opens_ended n k [] b e at = absurd (cc at)
 opens_ended n zero (c ∷ bs) b e at =
-    by (is_some c.ended) (without_below n (n + 1) bs (omega arith)) ∙ ap (λ m. without m (opens n (c ∷ bs))) (sym (add-zero n))
+    by (is_some c.ended) (removed_below n (n + 1) bs (omega arith)) ∙ ap (λ m. shift_remove_entry (nat_eq m) (opens n (c ∷ bs))) (sym (add-zero n))
   where
-    same : (n == n) ≡ true
+    same : nat_eq n n ≡ true
     same = grind arith
 
-    by : (t : Bool) → without n (opens (n + 1) bs) ≡ opens (n + 1) bs →
-        opens (n + 1) bs ≡ without n (if t then opens (n + 1) bs else (n, c.path) ∷ opens (n + 1) bs)
+    by : (t : Bool) → shift_remove_entry (nat_eq n) (opens (n + 1) bs) ≡ opens (n + 1) bs →
+        opens (n + 1) bs ≡ shift_remove_entry (nat_eq n) (if t then opens (n + 1) bs else (n, c.path) ∷ opens (n + 1) bs)
     by true stays = sym stays
-    by false stays = rw same (sym stays)
+    by false stays = rw same refl
 opens_ended n (suc k) (c ∷ bs) b e at = by (is_some c.ended) (opens_ended (n + 1) k bs b e at)
   where
     place : (n + 1) + k ≡ n + suc k
     place = omega arith
 
-    other : (n == n + suc k) ≡ false
+    other : nat_eq (n + suc k) n ≡ false
     other = grind arith
 
     changed : List Branch
     changed = slice_set bs k (record b { ended = Some e })
 
-    by : (t : Bool) → opens (n + 1) changed ≡ without ((n + 1) + k) (opens (n + 1) bs)
-        → (if t then opens (n + 1) changed else (n, c.path) ∷ opens (n + 1) changed) ≡ without (n + suc k) (if t then opens (n + 1) bs else (n, c.path) ∷ opens (n + 1) bs)
-    by true ih = ih ∙ ap (λ m. without m (opens (n + 1) bs)) place
-    by false ih = rw other (ap (λ es. (n, c.path) ∷ es) (ih ∙ ap (λ m. without m (opens (n + 1) bs)) place))
+    by : (t : Bool) → opens (n + 1) changed ≡ shift_remove_entry (nat_eq ((n + 1) + k)) (opens (n + 1) bs)
+        → (if t then opens (n + 1) changed else (n, c.path) ∷ opens (n + 1) changed) ≡ shift_remove_entry (nat_eq (n + suc k)) (if t then opens (n + 1) bs else (n, c.path) ∷ opens (n + 1) bs)
+    by true ih = ih ∙ ap (λ m. shift_remove_entry (nat_eq m) (opens (n + 1) bs)) place
+    by false ih = rw other (ap (λ es. (n, c.path) ∷ es) (ih ∙ ap (λ m. shift_remove_entry (nat_eq m) (opens (n + 1) bs)) place))
 
 -- an action that is doomed stays
 pub opens_doomed : (n k : ℕ) (bs : List Branch) (b : Branch) → slice_get bs k ≡ Some b →
@@ -88,6 +103,14 @@ child_is u n (b ∷ bs) = by (is_parent u (before_last (uids_of b.path))) refl (
     by false is true ih = ih
     by true is false ih = rw is refl
     by false is false ih = rw is ih
+
+-- of actions the last one is the first of the descendants, where it is one
+pub below_last : (u : Uid) (es : Opens) (e : ℕ × Path) →
+    below u (es ++ e ∷ []) ≡ (if is_path_below u e.1 then actor e.1 ∷ [] else []) ++ below u es
+below_last u [] e = sym (append-nil (if is_path_below u e.1 then actor e.1 ∷ [] else []))
+below_last u (d ∷ es) e =
+    ap (λ us. us ++ (if is_path_below u d.1 then actor d.1 ∷ [] else [])) (below_last u es e)
+    ∙ append_assoc (if is_path_below u e.1 then actor e.1 ∷ [] else []) (below u es) (if is_path_below u d.1 then actor d.1 ∷ [] else [])
 
 -- the open descendants, the one begun last first
 pub below_is : (u : Uid) (n : ℕ) (bs : List Branch) (found : List Uid) →

@@ -1,17 +1,18 @@
 -- What a tree keeps through each of its steps.
 use Rattle.std.proofs.Common.{◌≡◌, ℕ, ◌+◌, List, [], ◌∷◌, ◌++◌, length, refl, ap, sym, ◌∙◌, subst, true, false, Bool, Some, None, arith}
-use Rattle.std.proofs.Common.{nat_le, length-append}
+use Rattle.std.proofs.Common.{nat_eq, nat_le, length-append}
 use Rattle.std.proofs.lemmas.List.{length-set}
 use Rattle.std.specs.Prelude.{slice_get, slice_set}
 use Rattle.arj_protocol.specs.Ask.{actor}
 use Rattle.arj_protocol.specs.Tree.{Tree, Branch, Family, ended_at, ended_branch, listed_end, doomed_at, doomed_branch}
 use Rattle.arj_protocol.specs.Words.{Uid, Path, End, Kind, uids_of}
-use Rattle.arj_tree.specs.Open.{Opens, opens, without}
+use Rattle.arj_tree.specs.Open.{Opens, opens}
+use Rattle.indexmap.specs.IndexMap.{insert_entry, shift_remove_entry}
 use Rattle.arj_tree.specs.Stands.{IsPlace, Stands, with_branch}
 use Rattle.arj_tree.specs.Tally.{Families, family_in, changed, with_action, AreWithin}
 use Rattle.arj_tree.proofs.Maps.{within_changed}
 use Rattle.arj_tree.proofs.Named.{named_begun, named_changed, place_is}
-use Rattle.arj_tree.proofs.Opens.{opens_begun, opens_ended, opens_doomed}
+use Rattle.arj_tree.proofs.Opens.{inserted_last, opens_begun, opens_ended, opens_doomed}
 use Rattle.arj_start.specs.Kinds.{is_serial}
 
 -- what equals what a tree keeps is kept too
@@ -30,14 +31,15 @@ pub stands_begun : (node inc : ℕ) (bs : List Branch) (o : Opens) (m : Families
       ended = None;
       doomed =
           false;
-    } ∷ []) (o ++ (u.num, p) ∷ []) (changed with_action root m)
+    } ∷ []) (insert_entry nat_eq o u.num p) (changed with_action root m)
 stands_begun node inc bs o m u p k root s named last single =
     let b : Branch = record { path = p; kind = k; ended = None; doomed = false } in
     let place : 1 + length bs ≡ length bs + 1 = omega arith in
     let num : u.num ≡ 1 + length bs = ap (λ (u : Uid). u.num) named ∙ sym place in
     let more : length (bs ++ b ∷ []) ≡ length bs + 1 = length-append bs (b ∷ []) in
     record {
-      kept = ap (λ es. es ++ (u.num, p) ∷ []) s.kept ∙ ap (λ n. opens 1 bs ++ (n, p) ∷ []) num ∙ sym (opens_begun 1 bs b refl);
+      kept = ap (λ es. insert_entry nat_eq es u.num p) s.kept ∙ ap (λ n. insert_entry nat_eq (opens 1 bs) n p) num
+          ∙ inserted_last (1 + length bs) 1 p bs (omega arith) ∙ sym (opens_begun 1 bs b refl);
       named = named_begun node inc 1 bs b s.named (last ∙ named ∙ ap (λ (n : ℕ). record {
         node = node;
         inc = inc;
@@ -59,12 +61,12 @@ stands_changed node inc bs o m f root s same = record {
 
 -- an action ends
 pub stands_ended : (node inc k : ℕ) (bs : List Branch) (o left : Opens) (m : Families) (b c : Branch) (e : End) → Stands node inc bs o m →
-    slice_get bs k ≡ Some b → c ≡ record b { ended = Some e } → left ≡ without (k + 1) o
+    slice_get bs k ≡ Some b → c ≡ record b { ended = Some e } → left ≡ shift_remove_entry (nat_eq (k + 1)) o
     → Stands node inc (slice_set bs k c) left m
 stands_ended node inc k bs o left m b c e s at is left_is =
     let place : k + 1 ≡ 1 + k = omega arith in
     record {
-      kept = left_is ∙ ap (without (k + 1)) s.kept ∙ ap (λ n. without n (opens 1 bs)) place ∙ sym (opens_ended 1 k bs b e at) ∙ ap (λ c. opens 1 (slice_set bs k c)) (sym is);
+      kept = left_is ∙ ap (shift_remove_entry (nat_eq (k + 1))) s.kept ∙ ap (λ n. shift_remove_entry (nat_eq n) (opens 1 bs)) place ∙ sym (opens_ended 1 k bs b e at) ∙ ap (λ c. opens 1 (slice_set bs k c)) (sym is);
       named = named_changed node inc 1 k bs b c s.named at (ap (λ (x : Branch). x.path) is) (ap (λ (x : Branch). x.kind) is);
       within = subst (λ n. AreWithin n m) (sym (length-set bs k c)) s.within;
     }

@@ -1,5 +1,5 @@
 -- The refusals that a tree sees, in the order in which they are tested.
-use Rattle.std.specs.Prelude.{ℕ, Bool, true, false, not, ◌&&◌, if◌then◌else◌, List, [], ◌∷◌, Option, Some, None, is_some}
+use Rattle.std.specs.Prelude.{ℕ, Bool, true, false, ◌&&◌, if◌then◌else◌, List, [], ◌∷◌, Option, Some, None, is_some}
 use Rattle.arj_protocol.specs.Step.{is_below_16, is_misplaced}
 use Rattle.arj_protocol.specs.Tree.{Tree, Branch, branch_of, has_open_child, has_many_actions, has_many_objects, is_too_deep}
 use Rattle.arj_protocol.specs.Words.{Uid, End, Kind}

@@ -1,5 +1,5 @@
 -- The open actions among all, each with its number, and what is asked of them alone.
-use Rattle.std.specs.Prelude.{ℕ, ◌+◌, Bool, not, ◌&&◌, ◌==◌, if◌then◌else◌, List, [], ◌∷◌, ◌++◌, filter, Option, Some, None, is_some}
+use Rattle.std.specs.Prelude.{ℕ, ◌+◌, Bool, not, ◌&&◌, if◌then◌else◌, List, [], ◌∷◌, ◌++◌, Option, Some, None, is_some}
 use Rattle.std.specs.List.{list_any}
 use Rattle.arj_protocol.specs.Ask.{actor}
 use Rattle.arj_protocol.specs.Tree.{Branch, is_parent}
@@ -13,10 +13,6 @@ Opens = List (ℕ × Path)
 abbrev pub opens : ℕ → List Branch → Opens
 opens n [] = []
 opens n (b ∷ bs) = if is_some b.ended then opens (n + 1) bs else (n, b.path) ∷ opens (n + 1) bs
-
--- without the action of a number
-abbrev pub without : ℕ → Opens → Opens
-without n es = filter (λ (e : ℕ × Path). not (e.0 == n)) es
 
 -- the path of a descendant, and not of the action itself
 abbrev pub is_path_below : Uid → Path → Bool

@@ -1,23 +1,13 @@
 // The open actions: their numbers and paths, in order of beginning.
 ghost use Rattle.std.specs.Prelude.{◌≡◌, None, IfOk};
-ghost use Rattle.arj_tree.specs.Open.{without, below, latest, has_child, is_path_below};
+ghost use Rattle.arj_tree.specs.Open.{below, latest, has_child, is_path_below};
 
 use arj_base::{Path, Uid, Uids};
+use indexmap::IndexMap;
 use std::alloc::{AllocError, Global};
 
-/// Takes out the action of a number.
-pub fn take_out(opened: &mut Vec<(u64, Path)>, number: u64)
-    ensures { opened.new.items ≡ without number opened.old.items }
-{
-    let mut i = 0;
-    while i < opened.len() {
-        if opened[i].0 == number {
-            opened.remove(i);
-        } else {
-            i += 1;
-        }
-    }
-}
+/// The paths of the open actions by their numbers, in order of beginning.
+pub type Opened = IndexMap<u64, Path>;
 
 /// Whether it is the path of a descendant, and not of the action itself.
 pub fn is_path_below(path: &Path, action: Uid) -> bool
@@ -27,26 +17,25 @@ pub fn is_path_below(path: &Path, action: Uid) -> bool
 }
 
 /// The descendants of an action, the one begun last first.
-pub fn below(alloc: Global, opened: &[(u64, Path)], action: Uid) -> Result<Uids, AllocError>
-    ensures { IfOk result (λ uids. uids ≡ below action opened.now) }
+#[tactic(auto, using(crate::proofs::Opens::below_last, std::proofs::lemmas::List::append_assoc))]
+pub fn below(alloc: Global, opened: &Opened, action: Uid) -> Result<Uids, AllocError>
+    ensures { IfOk result (λ uids. uids ≡ below action opened.now.entries) }
 {
     let mut uids = Uids::new(alloc);
-    let mut i = opened.len();
-    while i > 0 {
-        i -= 1;
-        if is_path_below(&opened[i].1, action) {
-            uids.push(opened[i].1.last())?;
+    for (_, path) in opened.iter().rev() {
+        if is_path_below(path, action) {
+            uids.push(path.last())?;
         }
     }
     Ok(uids)
 }
 
 /// The descendant of an action that was begun last.
-pub fn latest(opened: &[(u64, Path)], action: Uid) -> Option<Uid>
-    ensures { result ≡ latest action None opened.now }
+pub fn latest(opened: &Opened, action: Uid) -> Option<Uid>
+    ensures { result ≡ latest action None opened.now.entries }
 {
     let mut found = None;
-    for (_, path) in opened {
+    for (_, path) in opened.iter() {
         if is_path_below(path, action) {
             found = Some(path.last());
         }
@@ -55,10 +44,10 @@ pub fn latest(opened: &[(u64, Path)], action: Uid) -> Option<Uid>
 }
 
 /// Whether one of them was begun in the action.
-pub fn has_child(opened: &[(u64, Path)], action: Uid) -> bool
-    ensures { result ≡ has_child action opened.now }
+pub fn has_child(opened: &Opened, action: Uid) -> bool
+    ensures { result ≡ has_child action opened.now.entries }
 {
-    for (_, path) in opened {
+    for (_, path) in opened.iter() {
         if path.parent() == Some(action) {
             return true;
         }

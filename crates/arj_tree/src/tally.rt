@@ -1,10 +1,11 @@
 // What counts against a root's limits, and its ends.
-ghost use Rattle.std.specs.Prelude.{◌≡◌, ◌<◌, ◌^◌, [], length, OnOk, OnErr, IsSome, option_copied, Some};
+ghost use Rattle.std.specs.Prelude.{◌≡◌, ◌<◌, ◌^◌, ◌&&◌, nat_le, not, [], length, OnOk, OnErr, IsSome, option_copied, Some};
 ghost use Rattle.arj_protocol.specs.Order.{at_number, has};
 ghost use Rattle.arj_protocol.specs.Tree.{no_family};
+ghost use Rattle.arj_start.specs.Limits.{most_objects};
 ghost use Rattle.arj_tree.specs.Tally.{family_in, with_action, with_end, with_object, changed};
 
-use arj_base::{End, Ends, Uid};
+use arj_base::{End, Ends, MOST_OBJECTS, Uid};
 use std::alloc::{AllocError, Global};
 use std::collections::{BTreeMap, BTreeSet};
 use std::marker::Model;
@@ -52,18 +53,11 @@ impl Tally {
         self.actions
     }
 
-    /// How many objects its actions use.
-    pub fn objects(&self) -> usize
-        ensures { result ≡ length self.now.objects }
+    /// Whether the object would be one more than its actions may use. It looks for the object only where they use as many.
+    pub fn has_many_objects(&self, x: u16) -> bool
+        ensures { result ≡ (not (has self.now.objects x) && nat_le most_objects (length self.now.objects)) }
     {
-        self.objects.len()
-    }
-
-    /// Whether one of its actions uses the object.
-    pub fn uses(&self, x: u16) -> bool
-        ensures { result ≡ has self.now.objects x }
-    {
-        self.objects.contains(&x)
+        self.objects.len() >= usize::from(MOST_OBJECTS) && !self.objects.contains(&x)
     }
 
     /// One more action was begun in it.
@@ -133,22 +127,12 @@ impl Tallies {
         }
     }
 
-    /// How many objects the root's actions use.
-    pub fn objects(&self, root: u64) -> usize
-        ensures { result ≡ length (family_in root self.now).objects }
+    /// Whether the object would be one more than the root's actions may use.
+    pub fn has_many_objects(&self, root: u64, x: u16) -> bool
+        ensures { result ≡ (let f = family_in root self.now in not (has f.objects x) && nat_le most_objects (length f.objects)) }
     {
         match self.of(root) {
-            Some(tally) => tally.objects(),
-            None => 0,
-        }
-    }
-
-    /// Whether one of the root's actions uses the object.
-    pub fn uses(&self, root: u64, x: u16) -> bool
-        ensures { result ≡ has (family_in root self.now).objects x }
-    {
-        match self.of(root) {
-            Some(tally) => tally.uses(x),
+            Some(tally) => tally.has_many_objects(x),
             None => false,
         }
     }

@@ -16,9 +16,9 @@ ghost use Rattle.arj_start.specs.Kinds.{is_serial};
 
 use crate::TreeFault;
 use crate::action::Action;
-use crate::opened::{below, has_child, latest, take_out};
+use crate::opened::{Opened, below, has_child, latest};
 use crate::tally::Tallies;
-use arj_base::{End, Ends, MOST_ACTIONS, MOST_OBJECTS, Path, Uid, Uids};
+use arj_base::{End, Ends, MOST_ACTIONS, Path, Uid, Uids};
 use arj_journal::Kind;
 use std::alloc::{AllocError, Global};
 use std::marker::Model;
@@ -31,8 +31,8 @@ pub struct Tree {
     inc: u32,
     // All actions: an action's number is its place, from 1.
     actions: Vec<Action>,
-    // The open ones, with their numbers, in the same order.
-    opened: Vec<(u64, Path)>,
+    // The paths of the open ones by number, in the same order.
+    opened: Opened,
     tallies: Tallies,
     // The ends of a root of which nothing was noted: none.
     no_ends: Ends,
@@ -47,7 +47,7 @@ impl Model for Tree {
 
     ghost view = { λ t. record { node = t.node; inc = t.inc; branches = t.actions.items; families = t.tallies } };
 
-    ghost invariant = { λ t. Stands t.node t.inc t.actions.items t.opened.items t.tallies × (t.no_ends ≡ []) };
+    ghost invariant = { λ t. Stands t.node t.inc t.actions.items t.opened.entries t.tallies × (t.no_ends ≡ []) };
 }
 
 impl Tree {
@@ -60,7 +60,7 @@ impl Tree {
             node,
             inc,
             actions: Vec::new(alloc),
-            opened: Vec::new(alloc),
+            opened: Opened::new(alloc),
             tallies: Tallies::new(alloc),
             no_ends: Ends::new(alloc),
         }
@@ -219,21 +219,21 @@ impl Tree {
     pub fn open_below(&self, action: Uid) -> Result<Uids, AllocError>
         ensures { IfOk result (λ uids. uids ≡ open_below action self.now) }
     {
-        below(self.alloc, self.opened.as_slice(), action)
+        below(self.alloc, &self.opened, action)
     }
 
     /// The open descendant of an action that was begun last. None exactly where it has none. It walks what is open.
     pub fn latest_below(&self, action: Uid) -> Option<Uid>
         ensures { result ≡ first_in (open_below action self.now) }
     {
-        latest(self.opened.as_slice(), action)
+        latest(&self.opened, action)
     }
 
     /// Whether an action that was begun in this one is open. It walks what is open.
     pub fn has_open_child(&self, action: Uid) -> bool
         ensures { result ≡ has_open_child action self.now }
     {
-        has_child(self.opened.as_slice(), action)
+        has_child(&self.opened, action)
     }
 
     // The Uid of the next action.
@@ -308,8 +308,7 @@ impl Tree {
     pub fn has_many_objects(&self, action: &Action, x: u16) -> bool
         ensures { result ≡ has_many_objects action.now x self.now }
     {
-        let root = action.path().root().num;
-        !self.tallies.uses(root, x) && self.tallies.objects(root) >= usize::from(MOST_OBJECTS)
+        self.tallies.has_many_objects(action.path().root().num, x)
     }
 
     // The path of an action that begins.
@@ -358,7 +357,7 @@ impl Tree {
         self.opened.reserve(1)?;
         self.tallies.count(self.alloc, path.root().num)?;
         self.actions.push_reserved(Action::new(path, kind));
-        self.opened.push_reserved((uid.num, path));
+        self.opened.insert(uid.num, path).unwrap();
         Ok(uid)
     }
 
@@ -415,7 +414,8 @@ impl Tree {
         ensures { (b : Branch) → slice_get self.old.branches place ≡ Some b → self.new ≡ with_branch place (record b { ended = Some outcome }) self.old }
     {
         self.actions[place].end(outcome);
-        take_out(&mut self.opened, place as u64 + 1);
+        let number = place as u64 + 1;
+        self.opened.shift_remove(&number);
     }
 
     /// The action can only abort from now on. It changes nothing where this incarnation didn't begin it.

@@ -1,13 +1,7 @@
-use Rattle.std.proofs.Common.{◌≡◌, ◌≤◌, length, drop}
+use Rattle.std.proofs.Common.{◌≡◌, ◌++◌}
 use Rattle.arj_tree.specs.Open.{below}
 use Rattle.arj_tree.proofs.opened.below.Given as goal
 
--- those from the place on, the last one first
-abbrev pub invariant-loop-i : goal.invariant-loop-i
-invariant-loop-i l = record {
-  within : l.i ≤ length l.opened;
-  found : l.uids ≡ below l.action (drop l.i l.opened);
-}
-
-abbrev pub decreases-loop-i : goal.decreases-loop-i
-decreases-loop-i l = l.i
+-- those that were looked at, and those that are left, the one begun last first
+abbrev pub invariant-loop-path : goal.invariant-loop-path
+invariant-loop-path l = l.uids ++ below l.action l.path-iterator.iter ≡ below l.action l.opened.entries

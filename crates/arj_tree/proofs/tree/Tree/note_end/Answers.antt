@@ -8,7 +8,7 @@ use Rattle.arj_tree.proofs.tree.Tree.note_end.Goals as goal
 pub invariant_of-self : goal.invariant_of-self
 invariant_of-self c =
     let t = c.self.inside in
-    (stands_ended t.node t.inc c.args.place t.actions.items t.opened.items c.take_out.new.opened.items t.tallies c.index_mut.result.now c.end.new.self c.args.outcome c.self.invariant.0 (read_at _ c.args.self.now c.args.place c.index_mut.result.now c.self.view_is c.requires c.index_mut.ensures.value) c.end.ensures c.take_out.ensures, c.self.invariant.1)
+    (stands_ended t.node t.inc c.args.place t.actions.items t.opened.entries c.shift_remove.new.self.entries t.tallies c.index_mut.result.now c.end.new.self c.args.outcome c.self.invariant.0 (read_at _ c.args.self.now c.args.place c.index_mut.result.now c.self.view_is c.requires c.index_mut.ensures.value) c.end.ensures c.shift_remove.ensures.entries, c.self.invariant.1)
 
 pub returns : goal.returns
 returns c b at =

@@ -8,6 +8,6 @@ use Rattle.arj_tree.proofs.tree.Tree.open_below.Goals as goal
 pub returns : goal.returns
 returns c =
     let bs = c.self.inside.actions.items in
-    IfOk-weaker c.below.result (λ uids. uids ≡ below c.args.action c.as_slice.result.now) (λ uids. uids ≡ open_below c.args.action c.args.self.now)
-    (λ uids is. is ∙ ap (below c.args.action) (c.as_slice.ensures.value ∙ c.self.invariant.0.kept) ∙ sym (append-nil _) ∙ sym (below_is c.args.action 1 bs [])
+    IfOk-weaker c.below.result (λ uids. uids ≡ below c.args.action c.self.inside.opened.entries) (λ uids. uids ≡ open_below c.args.action c.args.self.now)
+    (λ uids is. is ∙ ap (below c.args.action) c.self.invariant.0.kept ∙ sym (append-nil _) ∙ sym (below_is c.args.action 1 bs [])
     ∙ ap (λ (t : Tree). open_below c.args.action t) c.self.view_is) c.below.ensures
