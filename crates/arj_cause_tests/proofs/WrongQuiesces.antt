@@ -1,6 +1,6 @@
 -- What quiesces must not do: leave a call, an include or a commit waiting, as where a tick forgets one kind of request; lose a call; or say
 -- that something is left to do where nothing is. Also how many frames an event must not send, and that few meet no limit.
-use Rattle.std.specs.Prelude.{◌≡◌, ◌≤◌, ◌+◌, ℕ, zero, suc, refl, ◌⊎◌, List, [], ◌∷◌, ◌++◌, true, false, Some, codes}
+use Rattle.std.specs.Prelude.{◌≡◌, ◌≤◌, ◌+◌, ℕ, zero, suc, refl, List, [], ◌∷◌, ◌++◌, true, false}
 use Rattle.std.proofs.Common.{arith, sym, ⊎_elim}
 use Rattle.arj_class.specs.declared.op.Op.TheVariants as op
 use Rattle.arj_class.specs.declared.value.Value.TheVariants as value
@@ -17,7 +17,7 @@ use Rattle.arj_journal.specs.declared.header.Header.{Header}
 use Rattle.arj_model.specs.Past.{Past, nothing_yet}
 use Rattle.arj_law_cause.specs.rounds.Alone.{AloneStep}
 use Rattle.arj_law_cause.specs.rounds.Fits.{FewFit}
-use Rattle.arj_law_cause.specs.rounds.Quiesces.{Answers, IsWhole, QuiescesStep, SaysQuiet}
+use Rattle.arj_law_cause.specs.rounds.Quiesces.{IsWhole, QuiescesStep}
 use Rattle.arj_law_cause.specs.rounds.Sends.{SendsStep}
 use Rattle.arj_text.specs.Label.{name}
 use Rattle.arj_cause_tests.proofs.Words.{Wrote, b, end_from, l, nodes, object_line}
