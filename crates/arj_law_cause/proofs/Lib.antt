@@ -12,3 +12,4 @@ pub mod bindings
 pub mod confirm
 pub mod votes
 pub mod sending
+pub mod stores

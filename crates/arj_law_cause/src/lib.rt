@@ -2,9 +2,9 @@
 //!
 //! `follow/` has what events write, `waits/` what actions wait for, `rows/` answers with their causes, `operations/` of which
 //! operation an answer is, `kinds/` lines of one kind with their causes, `bindings/` what naming and servers have of bindings,
-//! `confirm/` why naming refuses commits, `votes/` what tops have written that stores are asked to prepare, `spelled/` that what is sent
-//! can be spelled, `told/` all that a journal says of why it is so, put together, `form/` which lines are in form, `rounds/` what
-//! quiesces answer and rounds leave.
+//! `confirm/` why naming refuses commits, `votes/` what tops have written that stores are asked to prepare, `stores/` that they have
+//! prepared it where a top commits, `spelled/` that what is sent can be spelled, `told/` all that a journal says of why it is so, put
+//! together, `form/` which lines are in form, `rounds/` what quiesces answer and rounds leave.
 //!
 //! What it gives upward: `journals_follow_their_events`, `journals_tell_their_causes`; `tree_refusals_follow`,
 //! `object_refusals_follow`, `refusals_follow`, `dooms_have_causes`, `lines_follow`; `waiting_refusals_follow`,

@@ -32,7 +32,13 @@ use Rattle.arj_law_cause.proofs.kinds.Walks.{behind_lines, none_pass, so_both}
 use Rattle.arj_law_cause.proofs.told.Joined.{journals_follow}
 use Rattle.arj_law_cause.specs.kinds.Kinds.{is_committed}
 use Rattle.arj_law_cause.specs.kinds.Rows.{TestHolds, TestedStep, tested}
-use Rattle.arj_law_cause.specs.kinds.Tests.{is_committed_so}
+
+-- A nested action commits in the event that commits it, and any other while its commit is under way.
+abbrev pub is_under_way : Here → Body → Bool
+is_under_way h (body.Committed l) =
+    holds_of (λ a. cond (is_nested a.kind) (is_commit_of (name l) h.event) (holds_in (λ (c : ℕ). true) (commit_here h (name l))))
+    (act_in (acts h.lines) (name l))
+is_under_way h _ = true
 
 -- ---- by the events
 
@@ -188,7 +194,7 @@ record IsRightLine (before : List Line) (b : Body) : Type 0 where
   pub right : AreRight new_book before
   pub its : Right (book before) b
 
-to_test : (h : Here) (b : Body) → is_committed b ≡ true → IsRightLine h.lines b → fits h b ≡ true → is_committed_so h b ≡ true
+to_test : (h : Here) (b : Body) → is_committed b ≡ true → IsRightLine h.lines b → fits h b ≡ true → is_under_way h b ≡ true
 to_test h (body.Committed l) its k is = ap (holds_of (λ (c : Act). cond (is_nested c.kind) (is_commit_of (name l) h.event)
     (holds_in (λ (n : ℕ). true) (commit_here h (name l))))) named ∙ by (is_nested a.kind) refl
   where
@@ -228,11 +234,11 @@ to_test h (body.Committed l) its k is = ap (holds_of (λ (c : Act). cond (is_nes
         k.right (under off)
 to_test h b its k is = absurd (cc its)
 
-pub committed_run : TestHolds is_committed_so is_committed
-committed_run hd r form =
+pub under_way_run : TestHolds is_under_way is_committed
+under_way_run hd r form =
     let lines = journal_by hd r in
     let right = right_lines hd r in
     let f = journals_follow hd r form in
-    tested_row IsRightLine is_committed fits is_committed_so to_test lines (λ before line behind is.
+    tested_row IsRightLine is_committed fits is_under_way to_test lines (λ before line behind is.
     let x = right_before new_book before line behind (subst (AreRight new_book) is right) in record { right = x.0; its = x.1 })
     hd r.start (run_events hd r) (f.0, f.1, along_so hd (run_events hd r) _ f.0 f.2, f.3, f.4)

@@ -137,7 +137,7 @@ fold_more n u before on (x ∷ xs) ys =
     (append_assoc before (x ∷ []) xs)
 
 -- by the place of the call
-pends_at : (ls ms : List Line) (n : ℕ) (u : Uid) (m : Placed (List Act)) → called_at ls u ≡ Some m →
+pub pends_at : (ls ms : List Line) (n : ℕ) (u : Uid) (m : Placed (List Act)) → called_at ls u ≡ Some m →
     may_be_pending n u (ls ++ ms) ≡ may_pend n u ls (may_pend n u (take m.at ls) false (drop m.at ls)) ms
 pends_at ls ms n u m is =
     ap (holds_in (λ (z : Placed (List Act)). may_pend n u (take z.at (ls ++ ms)) false (drop z.at (ls ++ ms))))

@@ -19,7 +19,6 @@ use Rattle.arj_law_cause.proofs.bindings.Lowered.{lowered_row}
 use Rattle.arj_law_cause.proofs.confirm.Runs.{bare_row, listed_row, met_row, old_test}
 use Rattle.arj_law_cause.proofs.kinds.Aborts.{abort_row}
 use Rattle.arj_law_cause.proofs.kinds.Committed.{done_row}
-use Rattle.arj_law_cause.proofs.kinds.Committing.{committed_run}
 use Rattle.arj_law_cause.proofs.kinds.Denied.{step_fits}
 use Rattle.arj_law_cause.proofs.kinds.Forms.{runs_too, so_too}
 use Rattle.arj_law_cause.proofs.kinds.Frames.{armed_row, dropped_row, got_row, halted_row, sent_row, void_row}
@@ -33,6 +32,7 @@ use Rattle.arj_law_cause.proofs.kinds.Served.{told_row}
 use Rattle.arj_law_cause.proofs.kinds.Shown.{copy_row, entry_row}
 use Rattle.arj_law_cause.proofs.kinds.Up.{up_row}
 use Rattle.arj_law_cause.proofs.rows.Whole.{answers_are_caused}
+use Rattle.arj_law_cause.proofs.stores.Row.{committed_run}
 use Rattle.arj_law_cause.proofs.told.Joined.{journals_follow}
 use Rattle.arj_law_cause.proofs.told.Locks.{granted_whole}
 use Rattle.arj_law_cause.proofs.told.Together.{AreInside, step_inside, together}

@@ -15,7 +15,7 @@ use Rattle.arj_law_cause.proofs.kinds.Asking.{all_later, among_those, any_later,
 use Rattle.arj_law_cause.proofs.kinds.Over.{read_later}
 use Rattle.arj_law_cause.proofs.waits.waiting.Lists.{any_in, some_in}
 
-any_filtered : {A : Type 0} (f p : A → Bool) (xs : List A) → list_any f (filter p xs) ≡ list_any (λ (x : A). p x && f x) xs
+pub any_filtered : {A : Type 0} (f p : A → Bool) (xs : List A) → list_any f (filter p xs) ≡ list_any (λ (x : A). p x && f x) xs
 any_filtered f p [] = refl
 any_filtered {A} f p (x ∷ xs) = by (p x) (any_filtered f p xs)
   where
@@ -24,7 +24,7 @@ any_filtered {A} f p (x ∷ xs) = by (p x) (any_filtered f p xs)
     by true ih = ap (λ b. f x || b) ih
     by false ih = ih
 
-any_made : {A B : Type 0} (f : B → Bool) (g : A → Option B) (xs : List A) →
+pub any_made : {A B : Type 0} (f : B → Bool) (g : A → Option B) (xs : List A) →
     list_any f (filter_map g xs) ≡ list_any (λ (x : A). holds_in f (g x)) xs
 any_made f g [] = refl
 any_made {A} {B} f g (x ∷ xs) = by (g x) (any_made f g xs)

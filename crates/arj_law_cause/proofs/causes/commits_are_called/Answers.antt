@@ -1,4 +1,4 @@
-use Rattle.arj_law_cause.proofs.kinds.Committing.{committed_run}
+use Rattle.arj_law_cause.proofs.stores.Row.{committed_run}
 use Rattle.arj_law_cause.proofs.causes.commits_are_called.Goals as goal
 
 pub returns : goal.returns
