@@ -138,6 +138,14 @@ committed_apart = refl
 committed_early : failing (tested is_committed_so (λ h. is_committed)) (after 37 (body.Committed (l 65) ∷ []) rebinding) ≡ 38 ∷ 47 ∷ []
 committed_early = refl
 
+-- a listed store hasn't prepared what it wrote; nor has one that stopped, but was sent no Prepare
+committed_unprepared : failing (tested is_committed_so (λ h. is_committed)) (without 17 exclusion) ≡ 23 ∷ []
+committed_unprepared = refl
+
+committed_unasked : failing (tested is_committed_so (λ h. is_committed))
+    (instead 17 (body.Halted 2) (instead 13 (body.Sent 3 1 2 frame.Vote) exclusion)) ≡ 24 ∷ []
+committed_unasked = refl
+
 -- `armed`: nothing is armed
 armed : failing_of is_armed (of_other_event 5 event.Settle stop_at_decision_done) ≡ 15 ∷ []
 armed = refl
