@@ -4,7 +4,7 @@ ghost use Rattle.arj_journal.specs.declared.body.Body.{Body};
 
 use crate::checked::explain_found;
 use crate::forms::form_of;
-use crate::help::{help, usage};
+use crate::help::help;
 use crate::images::{explain_audit, many_image_lines};
 use crate::pieces::{piece_at, word_at};
 use crate::programs::{bad_programs, many_lines};
@@ -19,11 +19,10 @@ use arj_words::refusal_words;
 use std::alloc::Global;
 use std::io;
 
-/// What a run leaves, of which is told: its words, whether there are none, or they are a command and a file, or they are `program`, `audit` or `image`;
+/// What a run leaves, of which is told: of its words whether they are a command and a file, or `program`, `audit` or `image`;
 /// the input as far as it was read, where it is remembered; the journal; why a line is bad; and what was found of a journal that was checked.
 #[derive(Clone, Copy)]
 pub struct Ran<'a> {
-    pub no_words: bool,
     pub gave_file: bool,
     pub programs: bool,
     pub audits: bool,
@@ -46,7 +45,6 @@ pub fn explain(rt: &impl Eprint, alloc: Global, status: u8, ran: &Ran) -> io::Re
         0 if ran.audits => Ok(()),
         0 if ran.programs => Ok(()),
         0 => refusals(rt, ran.journal),
-        1 if ran.no_words => usage(rt),
         1 => help(rt, ran.gave_file),
         2 => bad_line(rt, alloc, ran),
         3 => eprintln!(rt; "arjuna: standard input could not be read"),

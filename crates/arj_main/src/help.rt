@@ -1,8 +1,8 @@
 // The help text.
 use std::io;
 
-/// Says the usage line, whose words don't change with the commands: the help names all of them.
-pub fn usage(rt: &impl Eprint) -> io::Result<()> {
+// Says the usage line, whose words don't change with the commands: the help names all of them.
+fn usage(rt: &impl Eprint) -> io::Result<()> {
     eprintln!(rt; "usage: arjuna replay | arjuna generate N")
 }
 

@@ -16,7 +16,6 @@ use std::process::ExitCode;
 fn main(rt: HostRuntime) -> ExitCode {
     let alloc = rt.alloc();
     let mut left = Left {
-        no_words: false,
         gave_file: false,
         programs: false,
         audits: false,
@@ -33,7 +32,6 @@ fn main(rt: HostRuntime) -> ExitCode {
         Err(_) => 5,
     };
     let ran = Ran {
-        no_words: left.no_words,
         gave_file: left.gave_file,
         programs: left.programs,
         audits: left.audits,
@@ -56,7 +54,6 @@ fn takes_no_word(word: &str) -> bool {
 // What the run leaves to be told of.
 #[derive(Drop)]
 struct Left {
-    no_words: bool,
     gave_file: bool,
     programs: bool,
     audits: bool,
@@ -74,7 +71,6 @@ fn run(rt: &HostRuntime, left: &mut Left) -> io::Result<u8>
 {
     let alloc = rt.alloc();
     let words = words(rt, alloc)?;
-    left.no_words = words.len() == 0;
     left.gave_file = words.len() == 2 && takes_no_word(words[0].as_str());
     left.programs = words.len() == 1 && words[0].as_str() == "program";
     left.audits = words.len() == 1 && words[0].as_str() == "audit";
