@@ -1,10 +1,10 @@
 -- Why a top commits: each store that is listed behind it, of what it wrote, may have prepared it since its commit was called.
 --
--- An action is said to commit once among what its coordinator does, and then that only sends (`Shapes`); so of each such line there is what is
--- seen before and once it was said, and no store has done anything between (`Moments`). By the journal it is a committed top then, and each
--- other one's commit had been called (`Saying`); so by the object's disk machine it is the latest (`Newest`), and each listed store has
--- prepared for it, since none holds so late a version yet (`Holding`), as it is one writer more (`Counting`). What a store has prepared may be
--- pending by the journal (`Row`).
+-- An action is said to commit once among what its coordinator does, and then that only sends (`Shapes`); so of each such line there is
+-- what is seen before and once it was said, and no store has done anything between (`Moments`). By the journal it is a committed top
+-- then, and each other one's commit had been called (`Saying`); so by the object's disk machine it is the latest (`Newest`), and each
+-- listed store has prepared for it, since none holds so late a version yet (`Holding`), as it is one writer more (`Counting`). What a
+-- store has prepared may be pending by the journal (`Row`).
 pub mod Shapes
 pub mod Moments
 pub mod Saying

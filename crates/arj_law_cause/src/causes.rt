@@ -136,7 +136,8 @@ pub fn locks_on_entries_are_free()
 
 /// In every such run a nested action commits in the event that commits it, and any other action while its commit is under way by the lines
 /// before; then each store that is listed behind the line, of each object that a call of it wrote that survives, has since the commit was
-/// called prepared what the action wrote, or stopped where the action's node may have asked it for that by then. It does nothing when it runs.
+/// called prepared what the action wrote, or stopped where the action's node may have asked it for that by then. It does nothing when it
+/// runs.
 pub fn commits_are_called()
     ensures committed { TestHolds is_committed_so is_committed }
 {}

@@ -11,7 +11,8 @@ use Rattle.arj_law_runs.specs.journal.Book.{book, is_decided, new_book}
 use Rattle.arj_law_runs.specs.journal.Right.{AreRight}
 use Rattle.arj_law_serial.proofs.order.Order.{off_one, same_number}
 use Rattle.arj_model.specs.Actions.{chain_in, committed, committed_of, has_end, is_committed, path, recovered, recovered_of, top_in}
-use Rattle.arj_model.specs.Calls.{Call, Said, call_of, committed_calls, ids, kept, kept_in, made, made_by, made_in, said, said_of, surviving}
+use Rattle.arj_model.specs.Calls.{Call, Said, call_of, committed_calls, ids, kept, kept_in, made, made_by, made_in, said, said_of}
+use Rattle.arj_model.specs.Calls.{surviving}
 use Rattle.arj_model.specs.CauseSpans.{holds_in}
 use Rattle.arj_model.specs.Last.{count_tops, writes_of}
 use Rattle.arj_model.specs.Serial.{arrange, insert, serial_calls, serial_less, writes_on}
@@ -160,7 +161,8 @@ writer_later ls ms x n is = writers_are (ls ++ ms) x n
     ends : (id : ℕ) → has_end (committed ls) id ≡ true → has_end (committed (ls ++ ms)) id ≡ true
     ends id on = read_later committed_of (λ (e : Placed ℕ). e.it == id) [] 0 ls ms on
 
-    done : (a : Act) → is_committed (committed ls) (recovered ls) a ≡ true → is_committed (committed (ls ++ ms)) (recovered (ls ++ ms)) a ≡ true
+    done : (a : Act) → is_committed (committed ls) (recovered ls) a ≡ true →
+        is_committed (committed (ls ++ ms)) (recovered (ls ++ ms)) a ≡ true
     done a on = or_later (has_end (committed ls) a.id) (list_any (λ (u : Placed Uid). uid_eq u.it a.uid) (recovered ls))
         (has_end (committed (ls ++ ms)) a.id) (list_any (λ (u : Placed Uid). uid_eq u.it a.uid) (recovered (ls ++ ms))) (ends a.id)
         (read_later recovered_of (λ (u : Placed Uid). uid_eq u.it a.uid) [] 0 ls ms) on
@@ -242,7 +244,8 @@ survives_on ls ms id ended c i = (by (top_in found.0.it.path) refl made_so, top)
         below : list_all (λ (a : Act). has_end (committed (ls ++ ms)) a.id) (chain_in found.0.it.path) ≡ true
         below = all_later (λ (a : Act). has_end (committed ls) a.id) (λ (a : Act). has_end (committed (ls ++ ms)) a.id)
             (λ a on. read_later committed_of (λ (e : Placed ℕ). e.it == a.id) [] 0 ls ms on) (chain_in found.0.it.path)
-            (sym (all_of_ids (has_end (committed ls)) (chain_in found.0.it.path)) ∙ ap (λ (d : Call). list_all (has_end (committed ls)) d.chain) its
+            (sym (all_of_ids (has_end (committed ls)) (chain_in found.0.it.path))
+            ∙ ap (λ (d : Call). list_all (has_end (committed ls)) d.chain) its
             ∙ first.1)
 
         mine : is_committed (committed (ls ++ ms)) (recovered (ls ++ ms)) t ≡ true
@@ -280,7 +283,8 @@ top_there lines s i t is =
     each us (body.Ok l x op answer) z all e =
         let same : record { path = path us (name l); x = x; op = op; answer = answer } ≡ z = (let k : ◌≡◌ {A = Option Said}
         (Some (record { path = path us (name l); x = x; op = op; answer = answer })) (Some z) = e in cc k) in
-        subst (λ (y : Said). AllByRecursion (λ (a : Act). In a (acts lines)) y.path) same (path_all (λ (a : Act). In a (acts lines)) us (name l) all)
+        subst (λ (y : Said). AllByRecursion (λ (a : Act). In a (acts lines)) y.path) same
+        (path_all (λ (a : Act). In a (acts lines)) us (name l) all)
     each us b z all e = absurd (cc e)
 
 pub wrote_not : (lines : List Line) → AreRight new_book lines → (a : Act) → In a (acts lines) → is_decided (book lines) a.uid ≡ false →

@@ -1,9 +1,10 @@
--- Where a top was said to commit, each store that is listed then, of each object that it wrote, has prepared what it wrote: no store has yet
--- taken its commit, as none held so late a version before.
+-- Where a top was said to commit, each store that is listed then, of each object that it wrote, has prepared what it wrote: no store has
+-- yet taken its commit, as none held so late a version before.
 use Rattle.arj_law_disk.proofs.machine.Base.{never}
 use Rattle.arj_law_disk.proofs.machine.Results.{latest_state}
 use Rattle.arj_law_disk.specs.machine.Core.{Core}
-use Rattle.arj_law_disk.specs.machine.State.{Below, Hold, IsExcused, Packed, State, decided as is_decided_by, effective_by, hold, is_latest, last}
+use Rattle.arj_law_disk.specs.machine.State.{Below, Hold, IsExcused, Packed, State, decided as is_decided_by, effective_by, hold}
+use Rattle.arj_law_disk.specs.machine.State.{is_latest, last}
 use Rattle.arj_law_disk.specs.machine.State.{last_entry, state_for}
 use Rattle.arj_law_disk.specs.machine.Words.{has}
 use Rattle.arj_law_disk_view.specs.deciding_lines.Said.{IsJournalled}
@@ -11,7 +12,8 @@ use Rattle.arj_law_disk_view.specs.view.Pairs.{Holder, packed}
 use Rattle.arj_law_disk_view.specs.view.Stores.{SeesStore}
 use Rattle.arj_law_parts.proofs.Words
 use Words.{◌≡◌, ◌⊎◌, ◌<◌, ◌∙◌, ◌+◌, ◌++◌, ℕ, true, false, Bool, List, ◌∷◌, Option, Some, None, refl, sym, ap, subst}
-use Words.{inl, inr, ⊎_elim, arith, is_some, unwrap_or, In, Header, Label, Line, Node, ObjectState, Seen, World, at_place, at_uid, held_at, in_to, is_prepared}
+use Words.{inl, inr, ⊎_elim, arith, is_some, unwrap_or, In, Header, Label, Line, Node, ObjectState, Seen, World, at_place, at_uid}
+use Words.{held_at, in_to, is_prepared}
 use Words.{◌&&◌, cond, eq-eqb, name, number_tells, object, see, uid_number, writes, Wrote}
 use Words.body
 use Rattle.arj_journal.specs.ScriptForm.{HeaderInForm}
@@ -26,7 +28,8 @@ use joint.Excluding.{was_called}
 use joint.Clean.{AreJoined, Decides, Held, OrderedOf, decides_in, held_in, includes_there, lock_tied, object_some, ordered_of, reached_both}
 use joint.NamedTops.{AreLockTied}
 use joint.{Listing.all_there, Showing.node_there}
-use Rattle.arj_law_serial.proofs.order.{Cleaning.has_among, Cleaning.held_some, Cleaning.state_same, Entries.entry_is_last, Entries.stores_back}
+use Rattle.arj_law_serial.proofs.order.{Cleaning.has_among, Cleaning.held_some, Cleaning.state_same, Entries.entry_is_last}
+use Rattle.arj_law_serial.proofs.order.{Entries.stores_back}
 use Rattle.arj_law_serial.proofs.whole.WholeRuns.{kept_call_objects}
 use Rattle.arj_law_serial.specs.order.Seen.{IsCalled}
 use Rattle.arj_model.specs.Actions.{committed, has_end}
@@ -123,8 +126,8 @@ module _ (hd : Header) (form : HeaderInForm hd) (S : Seen) (r : Reached hd S) (e
         named undone t listed_top own wrote
 
     does_write : is_some (let W = j.machine in let p = W.disk.plan T in p.writes) ≡ true
-    does_write = newest.has_written hd (world_at hd S (world_of hd S r)) right x h decided (tied.listed x there) before calm line l is quiet are a
-        named undone t listed_top own wrote core
+    does_write = newest.has_written hd (world_at hd S (world_of hd S r)) right x h decided (tied.listed x there) before calm line l is
+        quiet are a named undone t listed_top own wrote core
 
     its_state : (is_decided_by (let W = j.machine in W.disk) T ≡ true) × ((let W = j.machine in W.disk.conf T) ≡ true)
         × ((g : Packed) → (let W = j.machine in let p = W.disk.plan T in p.writes) ≡ Some g → (let W = j.machine in last W.disk) ≡ g)
@@ -188,13 +191,15 @@ module _ (hd : Header) (form : HeaderInForm hd) (S : Seen) (r : Reached hd S) (e
                 st.version < (let m = S.start.marks.states x in m.version) + count_tops (writes_of S.lines x) →
                 Below (let W = j.machine in last W.disk) g → ⊥
             by st g same less (inl under) = high st.version g.version (let W = j.machine in last W.disk).version
-                ((let m = S.start.marks.states x in m.version) + count_tops (writes_of S.lines x)) (ap (λ (q : Packed). q.version) same) version less
+                ((let m = S.start.marks.states x in m.version) + count_tops (writes_of S.lines x))
+                (ap (λ (q : Packed). q.version) same) version less
                 under
               where
                 high : (a b c e : ℕ) → a ≡ b → c ≡ e → a < e → c < b → ⊥
                 high a b c e one two lower upper = omega (arith, one, two, lower, upper)
             by st g same less (inr it) = high st.version g.version (let W = j.machine in last W.disk).version
-                ((let m = S.start.marks.states x in m.version) + count_tops (writes_of S.lines x)) (ap (λ (q : Packed). q.version) same) version less
+                ((let m = S.start.marks.states x in m.version) + count_tops (writes_of S.lines x))
+                (ap (λ (q : Packed). q.version) same) version less
                 (ap (λ (q : Packed). q.version) it)
               where
                 high : (a b c e : ℕ) → a ≡ b → c ≡ e → a < e → c ≡ b → ⊥

@@ -31,8 +31,8 @@ use Rattle.arj_law_cause.proofs.waits.lost.Bound.{all_both}
 abbrev pub AreCalm : List Line → Type 0
 AreCalm lines = AllByRecursion (λ (k : Line). is_quiet_line k.body ≡ true) lines
 
--- Behind these lines this one was said, and these came behind it: by a coordinator that was up behind a front of the former, and what was seen
--- then, and once it had said so, was reached.
+-- Behind these lines this one was said, and these came behind it: by a coordinator that was up behind a front of the former, and what was
+-- seen then, and once it had said so, was reached.
 pub record IsSaidThen (hd : Header) (before : List Line) (line : Line) (behind : List Line) : Type 0 where
   pub first : Seen
   pub was : Reached hd first
@@ -309,13 +309,15 @@ module _ (hd : Header) where
           (shaped_walk k t v outs d M (message_shape k d t v from m outs is) h.0 h.1 base);
       act = λ k d t i M is brings fresh asks free h. let did = does i d.intents t.coord in
           let base = keeps.act k d t i M is brings fresh asks free h.0 in
-          with_both Base (LinesSaid hd) k did.outs (UpWith Base k (with_coord t did.part)) (UpWith (LinesSaid hd) k (with_coord t did.part)) d
+          with_both Base (LinesSaid hd) k did.outs (UpWith Base k (with_coord t did.part))
+          (UpWith (LinesSaid hd) k (with_coord t did.part)) d
           (asks_now i t.coord M) base
           (shaped_walk k t (with_coord t did.part) did.outs d (asks_now i t.coord M) (acts_shape i d.intents t.coord is) h.0 h.1 base);
       begin = λ k d t l how parent M brings fresh new gives none h.
           let did = begin_action l how parent (parent_of parent t.coord) t.coord in
           let N = given l (record { node = k; serial = is_serial how }) M in
-          with_both Base (LinesSaid hd) k did.outs (UpWith Base k (with_coord t did.part)) (UpWith (LinesSaid hd) k (with_coord t did.part)) d
+          with_both Base (LinesSaid hd) k did.outs (UpWith Base k (with_coord t did.part))
+          (UpWith (LinesSaid hd) k (with_coord t did.part)) d
           N (keeps.begin k d t l how parent M brings fresh new gives none h.0)
           (goes_walk k (with_coord t did.part) did.outs d N (refl, tt) h.1);
       tick = λ k d t M h. let r = again_all t.coord.doings t.coord in

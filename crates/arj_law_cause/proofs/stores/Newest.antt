@@ -3,7 +3,8 @@
 use Rattle.arj_law_disk.specs.machine.{State.is_latest, State.is_latest_in, Words.In}
 use Rattle.arj_law_parts.proofs.Words
 use Words.{Contains, ◌≡◌, ◌⊎◌, ◌≤◌, ◌<◌, ◌==◌, ◌++◌, ℕ, List, [], ◌∷◌, Bool, true, false, cond, filter, length, Option, Some, None}
-use Words.{is_some, refl, sym, ◌∙◌, ap, subst, inl, inr, ⊎_elim, arith, eq-eqb, eqb-true, is_on, in_from, in_to, Header, Label, Line, uid_number}
+use Words.{is_some, refl, sym, ◌∙◌, ap, subst, inl, inr, ⊎_elim, arith, eq-eqb, eqb-true, is_on, in_from, in_to, Header, Label, Line}
+use Words.{uid_number}
 use Words.{World, Wrote, name, uid_of}
 use Words.list as members
 use Words.body
@@ -13,7 +14,8 @@ use Rattle.arj_law_runs.specs.journal.Book.{Book, book, book_from, is_decided, n
 use Rattle.arj_law_runs.specs.journal.Laws.{AreApart}
 use Rattle.arj_law_runs.specs.journal.Right.{AreRight}
 use Rattle.arj_law_serial.proofs.Terms
-use Terms.{Act, act_in, acts, Top, tops, first_values, uid_of_id, Values, top_place, counts_of, Done, Packed, in_decided, AreDecided, AreDecisions}
+use Terms.{Act, act_in, acts, Top, tops, first_values, uid_of_id, Values, top_place, counts_of, Done, Packed, in_decided, AreDecided}
+use Terms.{AreDecisions}
 use Terms.{AreNewestFirst, Core, IsDecision, WroteSo, IncludersKnow, IsSaidFirst, IsOrderedSo, IsTied, State}
 use Terms.disk as disk_machine
 use Rattle.arj_law_serial.proofs.joint
@@ -130,7 +132,8 @@ module _ (hd : Header) (w : World) (right : AreRight new_book w.lines) (x : ℕ)
     (d : AreDecided hd w.lines x (let Q = disk_of h.holds in Q.tops))
     (tied : (S : State) × IsTied (first_values hd) w.lines x S) (before calm : List Line) (line : Line) (l : Label)
     (is : line.body ≡ body.Committed l) (quiet : AreCalm calm) (are : w.lines ≡ before ++ line ∷ calm) (a : Act)
-    (named : act_in (acts before) (name l) ≡ Some a) (undone : is_decided (book before) a.uid ≡ false) (t : Top) (listed_top : members.In t (tops w.lines))
+    (named : act_in (acts before) (name l) ≡ Some a) (undone : is_decided (book before) a.uid ≡ false) (t : Top)
+    (listed_top : members.In t (tops w.lines))
     (own : t.id ≡ a.id) (wrote : Wrote w.lines x t) where
   abbrev values : Values
   values = first_values hd
@@ -237,7 +240,12 @@ module _ (hd : Header) (w : World) (right : AreRight new_book w.lines) (x : ℕ)
       by false off =
           let less = writers_are_called_first values w.lines x tied.0 right tied.1 u t k.act ti.act
           (record { listed = in_to u (tops w.lines) i; wrote = its; there = in_to k.act (acts w.lines) k.there; number = k.number })
-          (record { listed = in_to t (tops w.lines) listed_top; wrote = wrote; there = in_to ti.act (acts w.lines) ti.there; number = ti.number })
+          (record {
+            listed = in_to t (tops w.lines) listed_top;
+            wrote = wrote;
+            there = in_to ti.act (acts w.lines) ti.there;
+            number = ti.number;
+          })
           (λ same. let no_way : true ≡ false = sym (eq-eqb u.id t.id same) ∙ off in cc no_way) (
             before,
             line ∷ calm,
@@ -277,4 +285,5 @@ module _ (hd : Header) (w : World) (right : AreRight new_book w.lines) (x : ℕ)
   pub has_written : Core S → is_some (let p = S.plan (uid_number a.uid) in
       p.writes) ≡ true
   has_written core = ap (λ n. is_some (let p = S.plan n in p.writes)) (sym number)
-      ∙ ap (λ (p : disk_machine.Plan). is_some p.writes) (sym (let k = core.journal in k.plan its.0 inside)) ∙ its_write its.0 mine.0 mine.2 its.3
+      ∙ ap (λ (p : disk_machine.Plan). is_some p.writes) (sym (let k = core.journal in k.plan its.0 inside))
+      ∙ its_write its.0 mine.0 mine.2 its.3

@@ -1,9 +1,11 @@
 -- The row of committed lines: each store that is listed behind one of a top, of each object that this wrote, may have prepared it since its
 -- commit was called.
 use Rattle.arj_law_parts.proofs.Words
-use Words.{◌≡◌, ◌⊎◌, ◌∙◌, ◌+◌, ◌<◌, ◌≤◌, ◌==◌, ◌&&◌, ◌||◌, ◌++◌, not, ℕ, Bool, true, false, cond, List, [], ◌∷◌, Option, Some, None, refl, sym}
+use Words.{◌≡◌, ◌⊎◌, ◌∙◌, ◌+◌, ◌<◌, ◌≤◌, ◌==◌, ◌&&◌, ◌||◌, ◌++◌, not, ℕ, Bool, true, false, cond, List, [], ◌∷◌, Option, Some, None, refl}
+use Words.{sym}
 use Words.{ap, subst, inl, inr, ⊎_elim, arith, and_parts, append_assoc, bytes_eq, bytes_eq-Decides, eq-eqb, find, list_all}
-use Words.{numbered, option_map, or_cases, uid_eq, uid_is, uid_same, writes, In, Body, Event, Header, Kind, Label, Line, Node, ObjectState, Start, Uid}
+use Words.{numbered, option_map, or_cases, uid_eq, uid_is, uid_same, writes, In, Body, Event, Header, Kind, Label, Line, Node}
+use Words.{ObjectState, Start, Uid}
 use Words.{held_at, is_serial, is_some, journal_by, name, object}
 use Words.body
 use Words.kind
@@ -91,7 +93,8 @@ module _ (n : ℕ) (u : Uid) where
   since before calm line l is quiet m at pend = ⊎_elim {C = may_have_in u n (take m.at before) (drop m.at before) ≡ true}
       (λ was. ⊎_elim {C = may_have_in u n (take m.at before) (drop m.at before) ≡ true} (λ never. absurd (cc never)) (λ yes. yes)
       (pend_some (take m.at before) false (drop m.at before) was))
-      (λ here. let no_way : true ≡ false = sym here ∙ (λ i. may_have_prepared u n before (is i) || calm_none (before ++ line ∷ []) calm quiet i) in
+      (λ here. let no_way : true ≡ false = sym here
+      ∙ (λ i. may_have_prepared u n before (is i) || calm_none (before ++ line ∷ []) calm quiet i) in
       absurd (cc no_way))
       (pend_some before (may_pend n u (take m.at before) false (drop m.at before)) (line ∷ calm)
       (sym (pends_at before (line ∷ calm) n u m at) ∙ pend))
@@ -191,13 +194,14 @@ module _ (hd : Header) (form : HeaderInForm hd) (before : List Line) (line : Lin
             ∙ writer_later (let N = t.first in N.lines) t.more c.x a.id e) ∙ wrote_not before right a there undone c.x in absurd (cc no_way)
 
     object_line_there : is_some (object_line hd c.x) ≡ true
-    object_line_there = object_there hd form t.now t.reached now_early before t.calm line l is t.quiet t.lines a named undone kind c survives
-        writing
+    object_line_there = object_there hd form t.now t.reached now_early before t.calm line l is t.quiet t.lines a named undone kind c
+        survives writing
 
     -- no store held so late a version before
     low : (s : ℕ) (n : Node) (st : ObjectState) → (let N = t.now in N.nodes s) ≡ Some n →
         held_at (object c.x) (let d = n.disk in d.store) ≡ Some st →
-        st.version < (let N = t.now in let m = N.start.marks.states c.x in m.version) + count_tops (writes_of (let N = t.now in N.lines) c.x)
+        st.version < (let N = t.now in let m = N.start.marks.states c.x in m.version)
+        + count_tops (writes_of (let N = t.now in N.lines) c.x)
     low s n st at held =
         let m = t.stores s n at in
         let le = held_low hd c.x form object_line_there t.first t.was first_early s m.0 st m.1
@@ -213,7 +217,8 @@ module _ (hd : Header) (form : HeaderInForm hd) (before : List Line) (line : Lin
     pub each_store : (s : ℕ) → is_among (listed hd (before ++ line ∷ []) c.x) s ≡ true →
         may_be_pending s a.uid (before ++ line ∷ t.calm) ≡ true
     each_store s among =
-        let p = store_prepared hd form t.now t.reached now_early before t.calm line l is t.quiet t.lines a named undone kind c survives writing s
+        let p = store_prepared hd form t.now t.reached now_early before t.calm line l is t.quiet t.lines a named undone kind c
+        survives writing s
         (ap (λ ns. is_among ns s) (lists c.x) ∙ among) (λ n st at held. low s n st at held) in
         ap (may_be_pending s a.uid) (sym t.lines) ∙ t.pend s p.0 a.uid p.1 p.2
 
@@ -275,7 +280,8 @@ module _ (hd : Header) (T : List Line → Line → Type 0) (of : Body → Bool) 
           along_with es (next p e a.0) end ending is a.2,
         )
 
-    headed_row : (st : Start) (es : List Event) → Runs (TestedStep test of_kind hd) st es lines → Runs (TestedStep goal of_kind hd) st es lines
+    headed_row : (st : Start) (es : List Event) → Runs (TestedStep test of_kind hd) st es lines →
+        Runs (TestedStep goal of_kind hd) st es lines
     headed_row st es r = (r.0, r.1, along_with es _ r.0 r.1 r.3 r.2, r.3, r.4)
 
 -- ---- the row
@@ -316,7 +322,8 @@ to_test hd form h (body.Committed l) header of k is =
     undone = let r = k.its in let o = r.1 in
         λ i. (open_is (book h.lines) (let c = r.0 in c.uid) o.unended).0 i || o.unfound i
 
-    was : cond (is_nested (let c = a in c.kind)) (is_commit_of (name l) h.event) (holds_in (λ (n : ℕ). true) (commit_here h (name l))) ≡ true
+    was : cond (is_nested (let c = a in c.kind)) (is_commit_of (name l) h.event) (holds_in (λ (n : ℕ). true) (commit_here h (name l)))
+        ≡ true
     was = sym (ap (holds_of (λ (c : Act). cond (is_nested c.kind) (is_commit_of (name l) h.event)
         (holds_in (λ (n : ℕ). true) (commit_here h (name l))))) named) ∙ is
 
@@ -336,8 +343,8 @@ to_test hd form h (body.Committed l) header of k is =
 to_test hd form h b header of k is = absurd (cc of)
 
 pub committed_run : TestHolds is_committed_so is_committed
-committed_run hd r form = headed_row hd (IsKnownLine hd) is_committed is_under_way is_committed_so (to_test hd form.header) (journal_by hd r)
-    (λ before line rest is.
+committed_run hd r form = headed_row hd (IsKnownLine hd) is_committed is_under_way is_committed_so (to_test hd form.header)
+    (journal_by hd r) (λ before line rest is.
     let x = right_before new_book before line rest (subst (AreRight new_book) is (right_lines hd r)) in record {
       right = x.0;
       its = x.1;

@@ -3,7 +3,8 @@
 use Rattle.arj_law.proofs.Reading.{read_none, read_some}
 use Rattle.arj_law_parts.proofs.Words
 use Words.{◌≡◌, ◌∙◌, ◌+◌, ◌==◌, ◌&&◌, ◌||◌, ◌++◌, ℕ, true, List, [], ◌∷◌, Some, None, refl, sym, ap, subst, inl, inr}
-use Words.{append_assoc, append-nil, eq-eqb, filter, filter_map, length, list_any, map, option_map, not, uid_eq, In, is_on, Body, Header, Label, Line, Uid, name}
+use Words.{append_assoc, append-nil, eq-eqb, filter, filter_map, length, list_any, map, option_map, not, uid_eq, In, is_on, Body, Header}
+use Words.{Label, Line, Uid, name}
 use Words.body
 use Rattle.arj_law_parts.specs.moves.Seen.{is_quiet_line}
 use Rattle.arj_law_runs.proofs.Terms.{Act, Placed, act_in, acts, new_book}
@@ -14,7 +15,8 @@ use Rattle.arj_law_runs.specs.journal.Right.{AreRight}
 use Rattle.arj_law_serial.proofs.order.Order.{IsTopOf, top_for}
 use Rattle.arj_model.specs.Actions.{committed, committed_of, has_end, recovered, recovered_of, top_in}
 use Rattle.arj_model.specs.Calls.{Top, committing_of, committings, top_of, tops}
-use Rattle.arj_model.specs.Last.{Exclusion, Inclusion, excluded, excluded_of, included, included_of, increasing, is_among, joins_by, joins_of}
+use Rattle.arj_model.specs.Last.{Exclusion, Inclusion, excluded, excluded_of, included, included_of, increasing, is_among, joins_by}
+use Rattle.arj_model.specs.Last.{joins_of}
 use Rattle.arj_model.specs.Last.{leaves_of, listed, listed_after, listed_from, object_line, serial_tops, stores_of_line}
 use Rattle.arj_model.specs.Serial.{arrange, lex, serial_key}
 use Rattle.arj_law_cause.proofs.kinds.Over.{read_later}
@@ -152,7 +154,8 @@ module _ (lines : List Line) (right : AreRight new_book lines) (before calm : Li
 
   pub called_of_top : (t : Top) (k : IsTopOf lines t) → is_on (let B = book before in B.called) (let b = k.act in b.uid) ≡ true
   called_of_top t k = called_then (let b = k.act in b.uid) (sym (its_call lines right k.act k.there)
-      ∙ any_in (λ (e : Placed ℕ). e.it == (let b = k.act in b.id)) (called lines) (record { at = t.at; it = (let b = k.act in b.id) }) k.call
+      ∙ any_in (λ (e : Placed ℕ). e.it == (let b = k.act in b.id)) (called lines)
+      (record { at = t.at; it = (let b = k.act in b.id) }) k.call
       (eq-eqb (let b = k.act in b.id) (let b = k.act in b.id) refl))
 
   pub top_of_it : is_top a.kind ≡ true → (t : Top) × In t (tops lines) × (t.id ≡ a.id)

@@ -8,7 +8,8 @@ use Words.{heard_none, heard_now, last_req, mark_lines, moved_commit, next_node,
 use Words.{plan_of, record_work, root_at, root_of, say_for, says, step_call, step_commit, tell, tell_all, tolds_of, tolds_by}
 use Words.{tolds_of_branch, branch_of, branch_named, on_branch, waits_for_call, waits_for_commit, CallEnd, CallStep, Answered, Included}
 use Words.{Conflict, Changed, Lost, Ended, Goal, On, Run, Steps, Aborts, Asks, CommitStep, Decides, Marked, Plan, Stays, Calling}
-use Words.{Committing, Idle, Now, Coord, Doing, doing_of, Branch, Did, Do, Effect, Work, PutIntent, Say, Send, Served, Input, acts, give_up_call}
+use Words.{Committing, Idle, Now, Coord, Doing, doing_of, Branch, Did, Do, Effect, Work, PutIntent, Say, Send, Served, Input, acts}
+use Words.{give_up_call}
 use Words.{call, include}
 use Words.body
 use Words.calls
@@ -246,7 +247,8 @@ commit_shape b intents c = doomed b.doomed
         (says_front u body.Committing c (λ l. refl)) (moved_shape u (commit.start plan) intents c)
 
     kinds : (q : Kind) → Shaped (commit_open b intents c q).outs
-    kinds kind.Nested = commits_shape u c [] (tolds_of intents (ended u ending.Commit c) u) tt (tolds_sent intents (ended u ending.Commit c) u)
+    kinds kind.Nested = commits_shape u c [] (tolds_of intents (ended u ending.Commit c) u) tt
+        (tolds_sent intents (ended u ending.Commit c) u)
     kinds kind.Serial = ends_go u ending.Commit body.Ended intents c (λ l. refl)
     kinds kind.Top = top
     kinds kind.Independent = top

@@ -44,7 +44,8 @@ stores_may_have h a c after = list_all (λ call. not (writes call.op)
 abbrev pub is_committed_so : Here → Body → Bool
 is_committed_so h (body.Committed l) =
     holds_of (λ a. if is_nested a.kind then is_commit_of (name l) h.event
-    else holds_in (λ c. stores_may_have h a c (behind h (body.Committed l)).lines) (commit_here h (name l))) (act_in (acts h.lines) (name l))
+    else holds_in (λ c. stores_may_have h a c (behind h (body.Committed l)).lines) (commit_here h (name l)))
+    (act_in (acts h.lines) (name l))
 is_committed_so h _ = true
 
 -- `aborted` with `old`. But for a restart of naming it has its cause: the store answered the Prepare of what the top changes, and by then
