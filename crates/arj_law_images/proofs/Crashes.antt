@@ -24,7 +24,7 @@ use Rattle.arj_model.specs.Refusals as refusals
 use Rattle.arj_promise.specs.Runs.{IsStoppedInForm, from_format}
 use Rattle.arj_protocol.specs.World.{says}
 use Rattle.arj_start.specs.Start.{Start, fresh}
-use Rattle.arj_law_images.specs.{Images.AreDown, Laws.CrashesStopAll}
+use Rattle.arj_law_images.specs.{Images.AreDown, Laws.CrashesStopAll, Laws.JournalsTellWhoIsDown}
 
 -- ---- places
 
@@ -288,3 +288,35 @@ module _ (hd : Header) (ms cs : List Move) (ups : List ℕ) (form : IsInForm hd 
 
 pub crashes_stop_all : CrashesStopAll
 crashes_stop_all hd ms cs ups form are ups_are on = all_down hd ms cs ups form are ups_are on
+
+-- ---- the journal says who is down
+
+module _ (hd : Header) (ms : List Move) (form : IsInForm hd (from_format hd ms))
+    (on : (let v = world_by hd (from_format hd ms) in v.over) ≡ false)
+    (down : (n : ℕ) → refusals.is_node hd n ≡ true → is_down fresh (journal_by hd (from_format hd ms)) n ≡ true) where
+  abbrev last : World
+  last = world_by hd (from_format hd ms)
+
+  addressed : Holds hd (AreAddressed hd) last
+  addressed = moves_asked hd (AreAddressed hd) (kept hd form.header) (from_format hd ms)
+
+  stood : (q : Past) × frames.Stands hd form.header q last × (q.start ≡ fresh)
+  stood = stands_at hd form.header ms (at_start fresh) (world_from hd fresh) form.stops
+      (frames.first_stands hd form.header fresh (let r = from_format hd ms in r.formed)) on
+
+  told_down : AreDown last
+  told_down n x there = by x.live refl
+    where
+      node : IsNode hd n
+      node = let all = addressed.holds.1 in subst (IsNode hd) (addressed.stands.numbers n x there) (all.0 n x there).0
+
+      is : is_down fresh last.lines n ≡ not (is_some x.live)
+      is = let z = stood.1 in subst (λ (st : Start). is_down st last.lines n ≡ not (is_some x.live)) stood.2
+          (ap (λ ls. is_down (let q = stood.0 in q.start) ls n) (sym z.lines) ∙ z.tells.ups n x there)
+
+      by : (l : Option Parts) → x.live ≡ l → x.live ≡ None
+      by None off = off
+      by (Some t) up = never (down n node) (is ∙ ap (λ o. not (is_some o)) up)
+
+pub journals_tell_who_is_down : JournalsTellWhoIsDown
+journals_tell_who_is_down hd ms form on down = told_down hd ms form on down

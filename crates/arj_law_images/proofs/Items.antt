@@ -1,6 +1,6 @@
 -- Images of runs, item by item.
 use Rattle.arj_law_parts.proofs.Words
-use Words.{◌≡◌, ◌∙◌, ◌≤◌, ◌&&◌, ◌==◌, ◌||◌, ℕ, Bool, true, false, cond, List, [], ◌∷◌, Option, Some, None, refl, sym, ap, subst, inl, inr}
+use Words.{◌≡◌, ◌++◌, ◌∙◌, ◌≤◌, ◌&&◌, ◌==◌, ◌||◌, ℕ, Bool, true, false, cond, List, [], ◌∷◌, Option, Some, None, refl, sym, ap, subst, inl, inr}
 use Words.{arith, is_some, option_map, length, AllByRecursion, In, in_to, and_parts, list_all, list_any, nat_le, nat_lt, or_right, unwrap_or}
 use Words.{Body, Header, Line, Node, ObjectState, Pair, Uid, World, IsInForm, Move, pair_in, state_bytes, object, at_place, journal_by, name}
 use Words.{world_by, most_events, most_frames, same_number}
@@ -9,7 +9,7 @@ use Rattle.arj_disk.specs.declared.slot.Role.TheVariants as role
 use Rattle.arj_disk.specs.declared.slot.Role.{Role}
 use Rattle.arj_image.specs.declared.image.Image.{Image}
 use Rattle.arj_law_images.proofs.Counts.{are_few as runs_few, events_fit, frames_fit}
-use Rattle.arj_law_images.proofs.{Cuts.all_of, Cuts.le_test, Unnamed.entry_named, Unnamed.state_named, Pasts.held_past, Rests.UpTo, Rests.runs_rest}
+use Rattle.arj_law_images.proofs.{Cuts.all_of, Cuts.le_test, Listed.lists_stores, Unnamed.entry_named, Unnamed.state_named, Pasts.held_past, Rests.UpTo, Rests.runs_rest}
 use Rattle.arj_law_images.specs.Images.{AreDown, IsImageOf}
 use Rattle.arj_law_images.specs.Laws.{ImagesAreClean, ImagesAreReadable, ImagesFit, ImagesHoldPast, ImagesKeepOrder, ImagesNameObjects, RunsKeepOrder}
 use Rattle.arj_law_images.specs.Laws.{StoppedNodesFit}
@@ -38,6 +38,9 @@ use Rattle.arj_protocol.specs.Effect.{held_at}
 use Rattle.arj_rest.specs.Nodes.{AreAtRest, are_few, body_fits, frame_of, has_come, is_halted, is_known, is_within, line_fits, lines_fit}
 use Rattle.arj_saved.specs.Files.{inc_at}
 use Rattle.arj_saved.specs.Saved.{disks_of}
+use Rattle.arj_law_images.specs.Laws.{CrashedImagesAreCalm, ImagesListStores, RunsListStores, StoppedImagesAreCalm}
+use Rattle.arj_law_images.proofs.Crashes.{crashes_stop_all}
+use Rattle.arj_rest.specs.Nodes.{are_listed}
 
 -- ---- the journal
 
@@ -294,3 +297,39 @@ pub images_keep_order : ImagesKeepOrder
 images_keep_order hd ms image form is =
     subst (λ (p : Header × List Line). KeepsOrder (first_values p.0) p.1) (λ i. (sym is.header i, sym is.journal i))
     (runs_keep_order hd (from_format hd ms) form)
+
+pub runs_list_stores : RunsListStores
+runs_list_stores hd r form =
+    let h = moves_asked hd (AreAddressed hd) (kept hd form.header) r in
+    let n = first_there (world_by hd r) (h.stands.places 1 (test_both (nat_le 1 1) (nat_le 1 hd.nodes) refl
+    (le_test 1 hd.nodes (let p = form.header.nodes in p.0)))) in
+    let f = runs_in_form hd r form in
+    lists_stores hd (world_by hd r) (moves_keep hd r) form.header (reached_both hd form.header (world_by hd r) f.0 f.1) n.0 n.1
+  where
+    first_there : (w : World) → is_some (at_place 1 w.nodes) ≡ true → (n : Node) × (at_place 1 w.nodes ≡ Some n)
+    first_there w there = by (at_place 1 w.nodes) refl there
+      where
+        by : (o : Option Node) → at_place 1 w.nodes ≡ o → is_some o ≡ true → (n : Node) × (at_place 1 w.nodes ≡ Some n)
+        by None none on = absurd (cc on)
+        by (Some n) here on = (n, here)
+
+pub images_list_stores : ImagesListStores
+images_list_stores hd ms image form is =
+    subst (λ (p : Header × List Line). are_listed p.0 p.1 ≡ true) (λ i. (sym is.header i, sym is.journal i))
+    (runs_list_stores hd (from_format hd ms) form)
+
+pub stopped_images_are_calm : StoppedImagesAreCalm
+stopped_images_are_calm hd ms image form is down files = record {
+  stopped = record {
+    nodes = stopped_nodes_fit hd ms image form is down;
+    files = files;
+    entries = images_name_objects hd ms image form is;
+    listed = images_list_stores hd ms image form is;
+  };
+  clean = images_are_clean hd ms image form is;
+  true_to = record { book = images_keep_order hd ms image form is; past = images_hold_past hd ms image form is };
+}
+
+pub crashed_images_are_calm : CrashedImagesAreCalm
+crashed_images_are_calm hd ms crashes ups image form are ups_are on is files =
+    stopped_images_are_calm hd (ms ++ crashes) image form is (crashes_stop_all hd ms crashes ups form are ups_are on) files

@@ -5,4 +5,5 @@ pub mod Unnamed
 pub mod Rests
 pub mod Counts
 pub mod Crashes
+pub mod Listed
 pub mod Items

@@ -1,5 +1,5 @@
 // Images of runs, item by item.
-ghost use Rattle.arj_law_images.specs.Laws.{CrashesStopAll, ImagesAreClean, ImagesAreReadable, ImagesFit, ImagesHoldPast, ImagesKeepOrder, ImagesNameObjects, RunsKeepOrder, StoppedNodesFit};
+ghost use Rattle.arj_law_images.specs.Laws.{CrashedImagesAreCalm, CrashesStopAll, ImagesAreClean, ImagesAreReadable, ImagesFit, ImagesHoldPast, ImagesKeepOrder, ImagesListStores, ImagesNameObjects, JournalsTellWhoIsDown, RunsKeepOrder, RunsListStores, StoppedImagesAreCalm, StoppedNodesFit};
 
 /// The journal of every run in form, wherever it begins, keeps the order of the lock book (`KeepsOrder` of `arj_book`); and so does that of an
 /// image of a run from a format, which can be read as a run. It does nothing when it runs.
@@ -7,6 +7,13 @@ pub fn journals_of_runs_keep_order()
     ensures runs { RunsKeepOrder }
     ensures images { ImagesKeepOrder }
     ensures readable { ImagesAreReadable }
+{}
+
+/// The journal of every run in form, wherever it begins, lists a store for each object, and none of them twice (`are_listed` of `arj_rest`):
+/// so the entry that will stand at naming does. And so does that of an image of a run from a format. It does nothing when it runs.
+pub fn journals_of_runs_list_stores()
+    ensures runs { RunsListStores }
+    ensures images { ImagesListStores }
 {}
 
 /// The counts of a run's image aren't too great; each line fits them and the files, by which whoever began did so in an incarnation to which
@@ -17,10 +24,11 @@ pub fn images_of_runs_fit()
     ensures stopped { StoppedNodesFit }
 {}
 
-/// Behind a run from a format a crash of each node that its journal says is up leaves each node down, as long as no limit is met. It does
-/// nothing when it runs.
+/// Behind a run from a format a crash of each node that its journal says is up leaves each node down, as long as no limit is met; and where
+/// the journal says that each node is down, each is. It does nothing when it runs.
 pub fn crashes_stop_all_nodes()
-    ensures { CrashesStopAll }
+    ensures stopped { CrashesStopAll }
+    ensures told { JournalsTellWhoIsDown }
 {}
 
 /// The disks of a run's image are clean (`AreClean` of `arj_clean`): where nothing is in doubt, node 1 has each object's entry, and each
@@ -35,4 +43,12 @@ pub fn images_of_runs_are_clean()
 pub fn images_of_runs_hold_past_states()
     ensures past { ImagesHoldPast }
     ensures entries { ImagesNameObjects }
+{}
+
+/// The image of a run is calm, so that a run can go on from it (`IsCalm` of `arj_audit`), where each node is down and its files are all of what
+/// is committed, in their grammars (`are_in_place`). So it is behind crashes of all nodes that the journal says are up, where no limit is met. It
+/// does nothing when it runs.
+pub fn images_of_stopped_runs_are_calm()
+    ensures down { StoppedImagesAreCalm }
+    ensures crashed { CrashedImagesAreCalm }
 {}
