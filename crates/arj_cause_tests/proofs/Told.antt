@@ -99,6 +99,13 @@ naming_later = refl
 naming_before : failing answer_fits (instead 27 (body.Changed (l 76) 1 (difference.Inc 2 1)) changed_inc_naming) ≡ 27 ∷ []
 naming_before = refl
 
+-- the root called for the object once alone, and another root was at naming in the old incarnation
+changed_alone : failing answer_fits (of_other_event 3 (event.Include (l 69) 1 2) changed_bind_naming) ≡ 27 ∷ 34 ∷ []
+changed_alone = refl
+
+naming_other : failing answer_fits (instead 4 (body.Granted 1 (u 2 1 2) (u 0 1 1) Write) changed_inc_naming) ≡ 27 ∷ []
+naming_other = refl
+
 -- a store says a conflict: another one than loaded, and a lock that no store has
 stores_conflict : failing answer_fits (instead 47 (body.Conflict (l 66) (u 2 1 1) Write 4) conflict_pending) ≡ 47 ∷ []
 stores_conflict = refl

@@ -10,8 +10,10 @@
 -- last, and the answer was made in its span (`Taking`), under its path (`Paths`), where the journal's row finds it (`Spans`, `Rows`); what
 -- is given up says so before (`Giving`). An answer that finds something changed was made where that shows (`Differing`, `Starting`,
 -- `Differences`), and no two incarnations of a server are named (`Machines`). An include that loads was let go on by naming in its top's
--- lock, whatever a coordinator does (`Loading`), and each node (`Locked`). So each line of an event fits (`Lined`, `Asks`); and as what is
--- accepted is what coordinators were asked (`Accepting`), each line of a run (`Whole`).
+-- lock, and a call until it comes to its server, whatever a coordinator does (`Loading`), and each node (`Locked`); so its root has
+-- entered (`Entered`), where whoever was granted a lock on an entry had begun (`Settled`). What a root keeps of an object it has from a
+-- call that was asked before (`Keepers`), in another event than one that finds it different (`Calls`). So each line of an event fits
+-- (`Lined`, `Asks`); and as what is accepted is what coordinators were asked (`Accepting`), each line of a run (`Whole`).
 pub mod Meeting
 pub mod Inside
 pub mod Holders
@@ -30,11 +32,15 @@ pub mod Taking
 pub mod Paths
 pub mod Spans
 pub mod Loading
+pub mod Keepers
 pub mod Differences
+pub mod Entered
 pub mod Rows
 pub mod Giving
 pub mod Asks
 pub mod Locked
+pub mod Calls
 pub mod Lined
 pub mod Accepting
+pub mod Settled
 pub mod Whole

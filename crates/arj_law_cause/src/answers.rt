@@ -16,9 +16,9 @@ ghost use Rattle.arj_law_cause.specs.rows.Lines.{AnswersHaveCauses};
 /// And one that
 /// says what changed is of a call that was told so in the span, by the node that is named or by naming, unless the action runs at
 /// either; and there the one copy was active before the other at the node, as it showed in the span, or the node was in the new
-/// incarnation in the span, and in the old one had a copy of the object. Of what naming told of itself it says less: of two
-/// bindings, that it made both, and which is older, not that the root had one of them from another call; and of two incarnations, that
-/// its node was in the new one, which is the later one, in the span, not that the root was there in the old one. It does nothing when it runs.
+/// incarnation in the span, and in the old one had a copy of the object, or is naming's and a top of the root got a lock on the entry in
+/// it. Where naming told it, it made both bindings, and the root had one of them from another call of the object. It does nothing when it
+/// runs.
 pub fn answers_have_causes()
     ensures runs { AnswersHaveCauses }
 {}

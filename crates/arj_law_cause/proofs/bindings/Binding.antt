@@ -49,9 +49,10 @@ above_is avoid (Some k) m is = by k.recorded refl (binding_less avoid k.binding)
     by false fresh false same = let no_way : ◌≡◌ {A = Option Made} None (Some m) = same in absurd (cc no_way)
     by true stale b same = let no_way : ◌≡◌ {A = Option Made} None (Some m) = same in absurd (cc no_way)
 
--- what makes a binding grants the lock in this incarnation
+-- what makes a binding, or lets an include go on, grants the lock in this incarnation
 abbrev pub GrantsNow : ℕ → Option BoundReply → Type 0
 GrantsNow inc (Some (bound.Make b server g stores)) = g ≡ inc
+GrantsNow inc (Some (bound.Write g stores)) = g ≡ inc
 GrantsNow inc r = ⊤
 
 module _ (inc x : ℕ) (p : Path) (e : Entry) (c : Counted) where
@@ -112,7 +113,7 @@ module _ (inc x : ℕ) (p : Path) (e : Entry) (c : Counted) where
   bind_grants true avoid = by (conflict_on x p mode.Write c.named)
     where
       by : (r : Option Row) → GrantsNow inc (include_asked inc x p e c r).reply
-      by None = tt
+      by None = refl
       by (Some r) = tt
   bind_grants false avoid = call (live_above avoid c.named.live)
     where

@@ -57,7 +57,7 @@ bound_then ls x b s lined = any_too (λ m. (m.it.x == x) && (same_binding m.it.b
 -- ---- incarnations that showed
 
 -- a line stands behind these lines, or among them
-behind : (before after pre : List Line) (l : Line) (post : List Line) → before ++ after ≡ pre ++ l ∷ post →
+pub behind : (before after pre : List Line) (l : Line) (post : List Line) → before ++ after ≡ pre ++ l ∷ post →
     (length before ≤ length pre) ⊎ ((rest : List Line) × (before ≡ pre ++ l ∷ rest))
 behind [] after pre l post is = inl (low (length pre))
   where

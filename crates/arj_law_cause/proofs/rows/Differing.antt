@@ -1,6 +1,5 @@
 -- What a server's answer says of incarnations and copies, where it finds that something changed, or takes a copy; and what naming's says
--- where
--- it was restarted.
+-- where it grants the write lock, and where it was restarted.
 use Rattle.arj_law_parts.proofs.Words
 use Words.{⊤, ◌≡◌, ◌⊎◌, ◌≤◌, ◌<◌, ◌∙◌, ◌+◌, ◌*◌, ◌==◌, ◌++◌, ◌&&◌, ◌||◌, not, ℕ, Bool, true, false, cond, List, [], ◌∷◌, Option, Some}
 use Words.{None, refl}
@@ -15,9 +14,10 @@ use Words.{uids_of}
 use Words.{Handled, Naming, Parts, Took, Void, handle, handle_ask, if_naming, is_meant, is_over, note_named, on_named, sends_answer}
 use Words.{serve, served}
 use Words.{top_of, with_naming, with_server, Node, numbered, binding_less}
-use Words.{length}
+use Words.{length, list_all, if◌then◌else◌, listed_entry, BoundReply, Named}
 use Words.ask
 use Words.body
+use Words.bound
 use Words.invoked
 use Words.naming
 use Words.recorded
@@ -31,9 +31,12 @@ use Rattle.arj_law_parts.specs.moves.Seen as seen
 use Rattle.arj_law_runs.specs.calls.Bindings.{HasFewBindings, bindings_made, most_bindings}
 use Rattle.arj_model.specs.Actions.{Placed}
 use Rattle.arj_model.specs.CauseCopies.{Activation, had_both, is_at, is_older, is_under, same_binding}
-use Rattle.arj_model.specs.Refusals.{incarnation}
+use Rattle.arj_model.specs.Refusals.{inc_step, incarnation}
+use Rattle.arj_protocol.specs.Named.{bind_named}
+use Rattle.arj_protocol.specs.Naming.{on_counted}
 use Rattle.arj_law_cause.proofs.bindings.Active.{older_is}
 use Rattle.arj_law_cause.proofs.bindings.Asking.{AskSo, AskedSo, IsSaidSo}
+use Rattle.arj_law_cause.proofs.bindings.Binding.{GrantsNow, bind_grants}
 use Rattle.arj_law_cause.proofs.bindings.Copies.{HasCopies, active_by}
 use Rattle.arj_law_cause.proofs.bindings.Counted.{IsBefore, IsGiven}
 use Rattle.arj_law_cause.proofs.bindings.Lines.{IsLined, inc_with}
@@ -41,7 +44,10 @@ use Rattle.arj_law_cause.proofs.bindings.Resting.{binding_at, ends_stay}
 use Rattle.arj_law_cause.proofs.bindings.Said.{KnowsBindings}
 use Rattle.arj_law_cause.proofs.bindings.Since.{AreLow, IsActiveIn, both_had, binding_is, low_more, met_in}
 use Rattle.arj_law_cause.proofs.rows.Telling.{init_is, init_of, outs_in, same_reply}
+use Rattle.arj_law_cause.proofs.rows.Inside.{handle_starts}
 use Rattle.arj_law_runs.proofs.kept.Handled.{it}
+use Rattle.arj_law_serial.proofs.holding.Says.{All, says}
+use Rattle.arj_law_serial.proofs.holding.Sorts.{is_no_start}
 
 some_is : {A : Type 0} {a b : A} → Some a ≡ Some b → a ≡ b
 some_is {A} {a} {b} is = let k : ◌≡◌ {A = Option A} (Some a) (Some b) = is in cc
@@ -57,12 +63,13 @@ Differs st n x (what.Inc had now) before = (had < now) × (incarnation st before
 Differs st n x (what.Bind had now) before = (is_older had now ≡ true) × (had_both n x had now before ≡ true)
 
 -- Where a server finds that something changed, it differs so; where it takes a copy, it says its incarnation; and naming names its own,
--- where
--- that isn't the one of the grant.
+-- where it grants the write lock, and where that isn't the one of the grant.
 abbrev pub says_differs : Start → ℕ → Head → Ask → Reply → List Line → Type 0
 says_differs st n h (ask.Invoke x b i ends o) (Reply.Invoked (invoked.Changed w)) before =
     HasFewBindings before → Differs st n x w before × ((j k : ℕ) → w ≡ what.Inc j k → j ≡ i)
 says_differs st n h (ask.Activate b s) (Reply.Activated i) before = (incarnation st before n ≡ i) × AreLow st before
+says_differs st n h (ask.Bind x include avoid) (Reply.Bound (bound.Make b s g stores)) before = g ≡ incarnation st before 1
+says_differs st n h (ask.Bind x include avoid) (Reply.Bound (bound.Write g stores)) before = g ≡ incarnation st before 1
 says_differs st n h (ask.Record x b i g) (Reply.Noted (recorded.Changed w)) before =
     (n ≡ 1) × (w ≡ what.Inc g (incarnation st before 1)) × (g < incarnation st before 1)
 says_differs st n h a r before = ⊤
@@ -475,18 +482,92 @@ module _ (k : ℕ) (d : Disk) (t v : Parts) (from : ℕ) (m : Message) (h : Head
       with_it None at e = let no_way : Void [] ≡ Took v (front ++ Send from (response (asked_by h) r) ∷ []) = e in absurd (cc no_way)
       with_it (Some o) at e = named o at e
 
-  pub served_differs : (a : Ask) → asks m ≡ Some (h, a) → is_again h a t.server ≡ false → Sent (serve k d t from h a) →
+  -- naming's incarnation stays where no line says that a node starts
+  behind_inc : (e : ℕ) (es : List Effect) (ls : List Line) → All (is_no_start 1) es →
+      incarnation M.seen.start (lines_behind e es ls) 1 ≡ incarnation M.seen.start ls 1
+  behind_inc e [] ls calm = refl
+  behind_inc e (Say b ∷ es) ls calm =
+      let p = and_parts (is_no_start 1 b) (list_all (says (is_no_start 1)) es) calm in
+      behind_inc e es (ls ++ numbered e (b ∷ [])) p.1 ∙ inc_with M.seen.start 1 e ls b ∙ one b (incarnation M.seen.start ls 1) p.0
+    where
+      one : (b : Body) (i : ℕ) → is_no_start 1 b ≡ true → inc_step 1 b i ≡ i
+      one (body.Up n j) i is = go (n == 1) is
+        where
+          go : (c : Bool) → not c ≡ true → (if c then j else i) ≡ i
+          go true h = absurd (cc h)
+          go false off = refl
+      one b i is = refl
+  behind_inc e (Send to p ∷ es) ls calm = behind_inc e es ls (and_parts true (list_all (says (is_no_start 1)) es) calm).1
+  behind_inc e (Do w ∷ es) ls calm = behind_inc e es ls (and_parts true (list_all (says (is_no_start 1)) es) calm).1
+
+  bound_says : (x : ℕ) (include : Bool) (avoid : Binding) → All (is_no_start 1) front → Sent (serve k d t from h (ask.Bind x include avoid)) →
+      says_differs M.seen.start k h (ask.Bind x include avoid) r (lines_behind M.past.number front M.seen.lines)
+  bound_says x include avoid calm is = with_it t.naming refl is
+    where
+      named : (o : Naming) → t.naming ≡ Some o →
+          Sent (served from h (with_naming t) Reply.Bound (naming.bind h.path x include avoid d.names o)) →
+          says_differs M.seen.start k h (ask.Bind x include avoid) r (lines_behind M.past.number front M.seen.lines)
+      named o at_it e = by (naming.bind h.path x include avoid d.names o).reply refl e
+        where
+          c : Rattle.arj_law_cause.proofs.bindings.Counted.IsCounted k o M.seen.start M.seen.lines
+          c = known.2.0.1.1.1 k (record { number = k; disk = d; live = Some t }) t here refl o at_it
+
+          grants : GrantsNow o.inc (naming.bind h.path x include avoid d.names o).reply
+          grants = over (is_over h.path o)
+            where
+              found : (f : Option Named) → GrantsNow o.inc
+                  (on_counted x (bind_named o.inc x h.path include avoid (listed_entry x d.names)) o f).reply
+              found None = tt
+              found (Some q) = bind_grants o.inc x h.path (listed_entry x d.names) (record { named = q; count = o.count }) include avoid
+
+              over : (b : Bool) → GrantsNow o.inc (cond {A = Served Naming BoundReply} b (void o)
+                  (on_counted x (bind_named o.inc x h.path include avoid (listed_entry x d.names)) o (at_number x o.objects))).reply
+              over true = tt
+              over false = found (at_number x o.objects)
+
+          says : (q : BoundReply) → GrantsNow o.inc (Some q) →
+              says_differs M.seen.start k h (ask.Bind x include avoid) (Reply.Bound q) (lines_behind M.past.number front M.seen.lines)
+          says (bound.Make b s g stores) its = its ∙ c.inc ∙ sym (behind_inc M.past.number front M.seen.lines calm)
+          says (bound.Live b s i g stores) its = tt
+          says (bound.Write g stores) its = its ∙ c.inc ∙ sym (behind_inc M.past.number front M.seen.lines calm)
+          says (bound.Conflict u w) its = tt
+
+          by : (f : Option BoundReply) → (naming.bind h.path x include avoid d.names o).reply ≡ f →
+              Sent (sends_answer from h (with_naming t (naming.bind h.path x include avoid d.names o).part)
+              (naming.bind h.path x include avoid d.names o).outs (option_map Reply.Bound f)) →
+              says_differs M.seen.start k h (ask.Bind x include avoid) r (lines_behind M.past.number front M.seen.lines)
+          by None at e = let no_way : Void [] ≡ Took v (front ++ Send from (response (asked_by h) r) ∷ []) = e in absurd (cc no_way)
+          by (Some q) at e =
+              let z = replied (with_naming t (naming.bind h.path x include avoid d.names o).part)
+              (naming.bind h.path x include avoid d.names o).outs (Reply.Bound q) e in
+              subst (λ y. says_differs M.seen.start k h (ask.Bind x include avoid) y (lines_behind M.past.number front M.seen.lines)) (sym z.0)
+              (says q (subst (GrantsNow o.inc) at grants))
+
+      with_it : (f : Option Naming) → t.naming ≡ f →
+          Sent (if_naming (λ o. served from h (with_naming t) Reply.Bound (naming.bind h.path x include avoid d.names o)) f) →
+          says_differs M.seen.start k h (ask.Bind x include avoid) r (lines_behind M.past.number front M.seen.lines)
+      with_it None at e = let no_way : Void [] ≡ Took v (front ++ Send from (response (asked_by h) r) ∷ []) = e in absurd (cc no_way)
+      with_it (Some o) at e = named o at e
+
+  pub served_differs : (a : Ask) → All (is_no_start 1) front → asks m ≡ Some (h, a) → is_again h a t.server ≡ false → Sent (serve k d t from h a) →
       says_differs M.seen.start k h a r (lines_behind M.past.number front M.seen.lines)
-  served_differs (ask.Invoke x b i ends o) asks_it new is = invoked_says x b i ends o asks_it new is
-  served_differs (ask.Activate b u) asks_it new is = activated_says b u is
-  served_differs (ask.Record x b i g) asks_it new is = noted_says x b i g asks_it is
-  served_differs (ask.Bind x include avoid) asks_it new is = tt
-  served_differs (ask.Load x) asks_it new is = tt
-  served_differs (ask.Vote i ties ends) asks_it new is = tt
-  served_differs (ask.Prepare states) asks_it new is = tt
-  served_differs (ask.Confirm grants excluded included) asks_it new is = tt
+  served_differs (ask.Invoke x b i ends o) calm asks_it new is = invoked_says x b i ends o asks_it new is
+  served_differs (ask.Activate b u) calm asks_it new is = activated_says b u is
+  served_differs (ask.Record x b i g) calm asks_it new is = noted_says x b i g asks_it is
+  served_differs (ask.Bind x include avoid) calm asks_it new is = bound_says x include avoid calm is
+  served_differs (ask.Load x) calm asks_it new is = tt
+  served_differs (ask.Vote i ties ends) calm asks_it new is = tt
+  served_differs (ask.Prepare states) calm asks_it new is = tt
+  served_differs (ask.Confirm grants excluded included) calm asks_it new is = tt
 
 -- ---- each answer was made so
+
+-- what all lines of more effects are, all of these are
+fronts : (p : Body → Bool) (es : List Effect) (e : Effect) → All p (es ++ e ∷ []) → All p es
+fronts p [] e all = refl
+fronts p (Say b ∷ es) e all = let q = and_parts (p b) (list_all (says p) (es ++ e ∷ [])) all in λ i. q.0 i && fronts p es e q.1 i
+fronts p (Send to m ∷ es) e all = fronts p es e (and_parts true (list_all (says p) (es ++ e ∷ [])) all).1
+fronts p (Do w ∷ es) e all = fronts p es e (and_parts true (list_all (says p) (es ++ e ∷ [])) all).1
 
 -- where the run began so, and what is known of bindings
 abbrev pub Starts : Start → Moment → Type 0
@@ -495,4 +576,8 @@ Starts st M = (M.seen.start ≡ st) × Wide KnowsBindings M
 pub tells_differs : (st : Start) → Tells (Starts st) (differs_so st)
 tells_differs st k d t v from m h a r front M known there other meant asking new is =
     subst (λ z. says_differs z k h a r (lines_behind M.past.number front M.seen.lines)) known.0
-    (served_differs k d t v from m h r front M known.1 there a asking new (sym (ap (handle_ask k d t from m) asking) ∙ is))
+    (served_differs k d t v from m h r front M known.1 there a calm asking new (sym (ap (handle_ask k d t from m) asking) ∙ is))
+  where
+    calm : All (is_no_start 1) front
+    calm = fronts (is_no_start 1) front (Send from (response (asked_by h) r))
+        (handle_starts k d t v from m (front ++ Send from (response (asked_by h) r) ∷ []) is 1)

@@ -412,7 +412,7 @@ module _ (k : ℕ) (d : Disk) (t : Parts) (from : ℕ) where
       (λ n. let r = confirm h.path grants excluded included d.names n in
       sent_works h (with_naming t r.part) r.outs (option_map Reply.Confirmed r.reply) refl)
 
-  acked_works : (u w : Uid) (intents : List (Uid × Intent)) (c : Coord) → doing_of w (acked from u intents c).part ≡ doing_of w c
+  pub acked_works : (u w : Uid) (intents : List (Uid × Intent)) (c : Coord) → doing_of w (acked from u intents c).part ≡ doing_of w c
   acked_works u w intents c = by (at_uid u c.telling)
     where
       left : (i : Intent) (ns : List ℕ) → doing_of w (acked_left u i intents c ns).part ≡ doing_of w c

@@ -12,7 +12,7 @@ use Words.{Input}
 use Words.{Intent, kept_of, root_at, root_of, waits_for_call, acts as does, parent_of, parts_in, restart_outs, tick_outs}
 use Words.{numbered, is_serial, Post, frame_kind, actor}
 use Rattle.arj_protocol.specs.Asking.{answer_line}
-use Words.{BoundReply, is_include, kept_at}
+use Words.{BoundReply, kept_at}
 use Words.body
 use Words.bound
 use Words.frame
@@ -26,21 +26,26 @@ use Rattle.arj_law_parts.specs.moves.Moments.{said}
 use Rattle.arj_law_parts.specs.moves.Moments.{sent, up, with_asking}
 use Rattle.arj_law_parts.specs.moves.With.{ArePlain, IsFirst, KeepsSteps, UpWith, WalksWith, is_plain_line}
 use Rattle.arj_law_parts.specs.moves.Seen as seen
-use Rattle.arj_law_cause.proofs.confirm.Joined.{early_before}
+use Rattle.arj_law_cause.proofs.rows.Entered.{IsSettled, settled_before}
 use Rattle.arj_law_runs.proofs.follow.Walking.{behind_all}
-use Rattle.arj_law_cause.specs.rows.Early.{IsEarly}
 use Rattle.arj_law_runs.specs.follow.Frames.{are_so}
 use Rattle.arj_model.specs.CauseSpans.{Here, behind}
 use Rattle.arj_model.specs.Past.{Asked as AskedOf}
 use Rattle.arj_law_cause.proofs.rows.Asks.{AreSameAsks, asks_same, asks_some}
-use Rattle.arj_law_cause.proofs.rows.Ending.{Ending, EndsBy, GaveUp, HasNone, Heard, Nothing, Said, Says, TurnsTo, acts_say, message_says}
+use Rattle.arj_law_cause.proofs.rows.Ending.{Ending, EndsBy, GaveUp, HasNone, Heard, Nothing, Said, Says, TurnsTo, acts_say, is_load, message_says}
 use Rattle.arj_law_cause.proofs.rows.Rows.{changed_so, conflict_so, included_so, ok_so}
 use Rattle.arj_law_runs.specs.addresses.Binds.{StandsOn}
-use Words.{AtInvoke}
+use Words.{At, AtActivate, AtBind, AtInvoke, AtLoad, AtNote, Binding, Known, first_uid, list_any, ◌≤◌}
+use Rattle.arj_law_cause.proofs.rows.Calls.{AreRising, asked_acts, from_accepted, other_call}
+use Rattle.arj_law_cause.proofs.rows.Keepers.{IsFromCall, is_bind}
+use Rattle.arj_law_cause.proofs.rows.Loading.{is_on_way}
+use Rattle.arj_law_parts.proofs.parts.Begun.{path_some}
+use Rattle.arj_model.specs.CauseAnswers.{is_other_call}
+use Rattle.arj_law_serial.proofs.Terms.{acts}
 use Rattle.arj_law_cause.proofs.rows.Locked.{LoadsAreLocked, own_of}
-use Rattle.arj_law_cause.proofs.rows.Taking.{AskedPaths, IsPathAt, Works, caller, full_reply, given as are_given, invoke_kept}
+use Rattle.arj_law_cause.proofs.rows.Taking.{AskedPaths, IsCaller, IsPathAt, Works, caller, full_reply, given as are_given, invoke_kept}
 use Rattle.arj_law_cause.proofs.rows.Taking.{kept_binding, live_kept}
-use Rattle.arj_law_cause.proofs.rows.Taking.{off_called, replied, stands_on, step_so, taken, told}
+use Rattle.arj_law_cause.proofs.rows.Taking.{off_called, replied, root_own, stands_on, step_so, taken, told}
 use Rattle.arj_law_cause.proofs.waits.lost.Bound.{BoundFull, ReplyFull}
 use Rattle.arj_law_cause.proofs.waits.lost.Stored.{IsFull}
 use Rattle.arj_law_runs.proofs.journal.Beginning as Beginning
@@ -134,6 +139,14 @@ no_begin i is l q p same = let no_way : false ≡ true = sym (ap is_act same) �
 some_is : {A : Type 0} {a b : A} → Some a ≡ Some b → a ≡ b
 some_is {A} {a} {b} is = let k : ◌≡◌ {A = Option A} (Some a) (Some b) = is in cc
 
+-- what loads is on its way
+load_on : (at : At) → is_load at ≡ true → is_on_way at ≡ true
+load_on (AtLoad k s rest) is = refl
+load_on (AtBind avoid) is = absurd (cc is)
+load_on (AtActivate k st) is = absurd (cc is)
+load_on (AtNote k i) is = absurd (cc is)
+load_on (AtInvoke k i) is = absurd (cc is)
+
 -- an answer that names some store has one
 none_full : (q : BoundReply) → BoundFull q → HasNone q → ⊥
 none_full (bound.Live b server i g stores) full none = none
@@ -156,6 +169,10 @@ module _ (hd : Header) (st : Start) (before : List Line) (event : ℕ) where
     lines = ls;
   }
 
+  -- calls and includes of these are what was asked, and numbers rise
+  abbrev pub IsAsked : List AskedOf → List AskedOf → Type 0
+  IsAsked accepted asked = AreSameAsks accepted asked × AreRising accepted
+
   -- behind these lines all are of the event, and each fits, whatever else was accepted
   pub record Lined (M : Moment) : Type 0 where
     pub number : M.past.number ≡ event
@@ -163,7 +180,7 @@ module _ (hd : Header) (st : Start) (before : List Line) (event : ℕ) where
     pub wrote : List Body
     pub lines : M.seen.lines ≡ before ++ numbered event wrote
     pub paths : AskedPaths M
-    pub fit : IsEarly M.seen.lines → (accepted : List AskedOf) → AreSameAsks accepted (accepted_of M.past.askings) →
+    pub fit : IsSettled M.seen.lines → (accepted : List AskedOf) → IsAsked accepted (accepted_of M.past.askings) →
         are_so answer_fits (here_of accepted M before) wrote ≡ true
 
   more : (M : Moment) (ws bs : List Body) → M.past.number ≡ event → M.seen.lines ≡ before ++ numbered event ws →
@@ -172,8 +189,8 @@ module _ (hd : Header) (st : Start) (before : List Line) (event : ℕ) where
       ∙ ap (λ ls. before ++ ls) (sym (map-append (λ (b : Body). record { event = event; body = b }) ws bs))
 
   -- lines come that fit
-  said_so : (bs : List Body) (M : Moment) → (IsEarly M.seen.lines → (accepted : List AskedOf) →
-      AreSameAsks accepted (accepted_of M.past.askings) → (h : Here) →
+  said_so : (bs : List Body) (M : Moment) → (IsSettled M.seen.lines → (accepted : List AskedOf) →
+      IsAsked accepted (accepted_of M.past.askings) → (h : Here) →
       h ≡ here_of accepted M M.seen.lines → are_so answer_fits h bs ≡ true) → Lined M → Lined (said bs M)
   said_so bs M fit h = record {
     number = h.number;
@@ -181,7 +198,7 @@ module _ (hd : Header) (st : Start) (before : List Line) (event : ℕ) where
     wrote = h.wrote ++ bs;
     lines = more M h.wrote bs h.number h.lines;
     paths = λ q i. path_more M.seen.lines (numbered M.past.number bs) q (h.paths q i);
-    fit = λ early accepted same. let earlier = early_before M.seen.lines (numbered M.past.number bs) early in
+    fit = λ early accepted same. let earlier = settled_before M.seen.lines (numbered M.past.number bs) early in
         so_both (here_of accepted M before) h.wrote bs (h.fit earlier accepted same)
         (fit earlier accepted same (behind_all (here_of accepted M before) h.wrote)
         (behind_is (here_of accepted M before) h.wrote ∙ (λ i. here_of accepted M (sym h.lines i))));
@@ -190,8 +207,8 @@ module _ (hd : Header) (st : Start) (before : List Line) (event : ℕ) where
   pub free_lined : (bs : List Body) (M : Moment) → AllByRecursion FitsAnywhere bs → Lined M → Lined (said bs M)
   free_lined bs M all h = said_so bs M (λ early accepted same g is. free_so g bs all) h
 
-  one_lined : (b : Body) (M : Moment) → (IsEarly M.seen.lines → (accepted : List AskedOf) →
-      AreSameAsks accepted (accepted_of M.past.askings) → answer_fits (here_of accepted M M.seen.lines) b ≡ true) →
+  one_lined : (b : Body) (M : Moment) → (IsSettled M.seen.lines → (accepted : List AskedOf) →
+      IsAsked accepted (accepted_of M.past.askings) → answer_fits (here_of accepted M M.seen.lines) b ≡ true) →
       Lined M → Lined (said (b ∷ []) M)
   one_lined b M fits h = said_so (b ∷ []) M
       (λ early accepted same g is. λ i. (ap (λ z. answer_fits z b) is ∙ fits early accepted same) i && true) h
@@ -213,7 +230,8 @@ module _ (hd : Header) (st : Start) (before : List Line) (event : ℕ) where
       first = length before;
       lines = before;
     }) h.wrote) ∙
-        h.fit (subst IsEarly lines early) accepted (same ∙ ap (λ (p : History). filter asks_some (accepted_of p.askings)) past);
+        h.fit (subst IsSettled lines early) accepted
+        (same.0 ∙ ap (λ (p : History). filter asks_some (accepted_of p.askings)) past, same.1);
   }
 
   framed_lined : (b : Body) (M : Moment) (n : ℕ) → FitsAnywhere b → Lined M →
@@ -287,12 +305,34 @@ module _ (hd : Header) (st : Start) (before : List Line) (event : ℕ) where
       busy : (u : Uid) (w : Doing) (s : Steps) → doing_of u t.coord ≡ Some w → w.now ≡ Calling s → actor s.path ≡ u
       busy u w s found is = let c = caller hd k d t M W u w s found is in c.actor
 
+      -- a binding that its root keeps it has from another call
+      keeper : (accepted : List AskedOf) → IsAsked accepted (accepted_of M.past.askings) → (u : Uid) (w : Doing) (s : Steps)
+          (found : doing_of u t.coord ≡ Some w) (is : w.now ≡ Calling s) (avoid : Binding) → s.at ≡ AtBind avoid → (old : Known) →
+          kept_of s.x (root_at (root_of s.path) t.coord) ≡ Some old →
+          list_any (is_other_call (let c = caller hd k d t M W u w s found is in let z = c.asked in let y = z.asking in y.asked) s.x) accepted
+          ≡ true
+      keeper accepted same u w s found is avoid at old keeps =
+          other_call M.past.askings accepted same.0 same.1 t.coord (root_of s.path) (root_own hd k d t M W u w s found is) s.x F (name w.label)
+          (let z = c.asked.asking in z.asked) c.asked.last (F.other u w s found is (ap is_bind at)) (acts M.seen.lines) c.distinct
+          (λ z i. asked_acts M.seen.lines from.0 (h.paths from.0 from.1) z (subst (λ (a : AskedOf). In z a.path) (sym from.2) i))
+          (λ z i. asked_acts M.seen.lines c.asked.asking (h.paths c.asked.asking c.asked.there) z i) (ap first_uid c.asked.path)
+          (subst (λ us. 1 ≤ length us) (sym c.asked.path) (path_some s.path))
+        where
+          c : IsCaller k M u w s
+          c = caller hd k d t M W u w s found is
+
+          F : IsFromCall M.past.askings (accepted_of M.past.askings) t.coord (root_of s.path) s.x
+          F = (own_of k d t M L).1 (root_of s.path) s.x old keeps
+
+          from : (z : Asking) × In z M.past.askings × (z.asked ≡ F.asked)
+          from = from_accepted F.asked M.past.askings F.there
+
       -- the line of a call that takes an answer
       line_fits : (from : ℕ) (m : Message) → seen.In (post from k m) M.seen.sent → (u : Uid) (w : Doing) (s : Steps) (g : CallEnd) →
           doing_of u t.coord ≡ Some w → w.now ≡ Calling s → (a : Asked) (r : Reply) → answers m ≡ Some (a, r) → a.act ≡ u →
-          waits_for_call from a r s ≡ true → EndsBy (kept_at s t.coord) s.goal s.at r g → IsEarly M.seen.lines →
+          waits_for_call from a r s ≡ true → EndsBy (kept_at s t.coord) s.goal s.at r g → IsSettled M.seen.lines →
           (accepted : List AskedOf) →
-          AreSameAsks accepted (accepted_of M.past.askings) →
+          IsAsked accepted (accepted_of M.past.askings) →
           answer_fits (here_of accepted M M.seen.lines) (end_line s.x s.goal g w.label) ≡ true
       line_fits from m there u w s g found is a r answer act waits ends early accepted same = by g ends
         where
@@ -302,7 +342,7 @@ module _ (hd : Header) (st : Start) (before : List Line) (event : ℕ) where
             where
               on : (z : Goal) → s.goal ≡ z → answer_fits (here_of accepted M M.seen.lines) (answer_line s.x z b w.label) ≡ true
               on (Run o) goal = ok_so hd k M (here_of accepted M M.seen.lines) refl refl
-                  (asks_same accepted (accepted_of M.past.askings) same) u w s (caller hd k d t M W u w s found is) h.paths
+                  (asks_same accepted (accepted_of M.past.askings) same.0) u w s (caller hd k d t M W u w s found is) h.paths
                   (kept_of s.x (root_at (root_of s.path) t.coord)) (stands_on hd k d t M W u w s found is) from a r
                   (taken hd k d t M W u w s found is from m there a r answer act waits) ends.0 ends.1 o b ends.2 goal ends.3
               on (Include n) goal = let never : ⊥ = subst (λ z. StandsOn z (kept_of s.x (root_at (root_of s.path) t.coord))
@@ -311,24 +351,25 @@ module _ (hd : Header) (st : Start) (before : List Line) (event : ℕ) where
           by (Included stored) ends =
               subst (λ z. answer_fits (here_of accepted M M.seen.lines) (end_line s.x z (Included stored) w.label) ≡ true) (sym ends.1)
               (included_so hd k M (here_of accepted M M.seen.lines) refl refl
-              (asks_same accepted (accepted_of M.past.askings) same) u w s (caller hd k d t M W u w s found is) h.paths
+              (asks_same accepted (accepted_of M.past.askings) same.0) u w s (caller hd k d t M W u w s found is) h.paths
               (kept_of s.x (root_at (root_of s.path) t.coord)) (stands_on hd k d t M W u w s found is) ends.0 ends.1
-              (own_of k d t M L u w s found is (λ i. ap is_include ends.1 i && ends.2 i)))
+              ((own_of k d t M L).0 u w s found is (load_on s.at ends.2)))
           by (Conflict v held n) ends = conflict_so hd k M (here_of accepted M M.seen.lines) refl refl
-              (asks_same accepted (accepted_of M.past.askings) same) u w s (caller hd k d t M W u w s found is)
+              (asks_same accepted (accepted_of M.past.askings) same.0) u w s (caller hd k d t M W u w s found is)
               h.paths (kept_of s.x (root_at (root_of s.path) t.coord)) (stands_on hd k d t M W u w s found is) from a r
-              (taken hd k d t M W u w s found is from m there a r answer act waits) W.form early
+              (taken hd k d t M W u w s found is from m there a r answer act waits) W.form early.early
               (off_called hd k d t M W u w s found is) v held n ends
           by (Changed n x) ends = changed_so hd k M (here_of accepted M M.seen.lines) refl refl
-              (asks_same accepted (accepted_of M.past.askings) same) u w s (caller hd k d t M W u w s found is) h.paths
+              (asks_same accepted (accepted_of M.past.askings) same.0) u w s (caller hd k d t M W u w s found is) h.paths
               (kept_of s.x (root_at (root_of s.path) t.coord)) (stands_on hd k d t M W u w s found is) from a r
-              (taken hd k d t M W u w s found is from m there a r answer act waits) (sym begun) early.few
-              (are_given hd k d t M W u w s found is) (told hd k d t M W u w s found is from m there a r answer act waits)
+              (taken hd k d t M W u w s found is from m there a r answer act waits) (sym begun) (let z = early.early in z.few)
+              (are_given hd k d t M W u w s found is) early.begins ((own_of k d t M L).0 u w s found is)
+              (λ avoid at old keeps. keeper accepted same u w s found is avoid at old keeps) (told hd k d t M W u w s found is from m there a r answer act waits)
               (step_so hd k d t M W u w s found is) (kept_binding hd k d t M W u w s found is)
               (replied hd k d t M W u w s found is from m there a r answer act waits)
-              (λ o goal y i at. invoke_kept hd k d t M W u w s found is early o goal y i at)
+              (λ o goal y i at. invoke_kept hd k d t M W u w s found is early.early o goal y i at)
               (λ o goal avoid at b server i g stores live old first keeps has alike. live_kept hd k d t M W u w s found is from m there a r
-              answer act waits early o goal avoid at b server i g stores live old first keeps has alike) n x ends
+              answer act waits early.early o goal avoid at b server i g stores live old first keeps has alike) n x ends
           by (Lost n b) ends = absurd (none_full ends.0 (subst ReplyFull ends.1
               (full_reply hd k d t M W u w s found is from m there a r answer act waits)) ends.2)
 
@@ -374,8 +415,8 @@ module _ (hd : Header) (st : Start) (before : List Line) (event : ℕ) where
           lost : (u : Uid) (w : Doing) (s : Steps) (g : CallEnd) (m : Label) (b : Branch) → doing_of u t.coord ≡ Some w →
               w.now ≡ Calling s → input.GiveUp l ≡ input.GiveUp m → branch_named m t.coord ≡ Some b → u ≡ actor b.path →
               given_up s.at ≡ Ended g →
-              (let N = said (body.GaveUp w.label (next_node s) ∷ []) M in IsEarly N.seen.lines) → (accepted : List AskedOf) →
-              AreSameAsks accepted (accepted_of M.past.askings) →
+              (let N = said (body.GaveUp w.label (next_node s) ∷ []) M in IsSettled N.seen.lines) → (accepted : List AskedOf) →
+              IsAsked accepted (accepted_of M.past.askings) →
               (let N = said (body.GaveUp w.label (next_node s) ∷ []) M in
               answer_fits (here_of accepted N N.seen.lines) (end_line s.x s.goal g w.label) ≡ true)
           lost u w s g m b found calls gives named at_act ends early accepted same =
@@ -385,7 +426,7 @@ module _ (hd : Header) (st : Start) (before : List Line) (event : ℕ) where
               subst (λ e. answer_fits H (end_line s.x s.goal e w.label) ≡ true) (sym its.2)
               (subst (λ n. answer_fits H (body.Lost w.label n) ≡ true) its.3
               (lost_so k M H M.past.number u w s (caller hd k d t M W u w s found calls) (next_node s) refl
-              (asks_same accepted (accepted_of M.past.askings) same) before event h.wrote refl
+              (asks_same accepted (accepted_of M.past.askings) same.0) before event h.wrote refl
               (more M h.wrote (body.GaveUp w.label (next_node s) ∷ []) h.number h.lines)
               (ap (gives_up (name w.label)) (brings_give M.past.event l brings) ∙ same_label)))
             where

@@ -298,59 +298,60 @@ module _ (p : Path) (x : ℕ) (u : Uid) (held : Mode) where
       by true is = absurd (none_is is)
       by false is = named (at_number x o.objects) is
 
--- an include goes on in its top's write lock
-module _ (p : Path) (x g : ℕ) (stores : List ℕ) where
+-- the answer lets an include go on, or makes a binding
+abbrev pub is_write : BoundReply → Bool
+is_write (bound.Write h ss) = true
+is_write (bound.Make b s h ss) = true
+is_write q = false
+
+-- an include goes on in its top's write lock, and a binding is made in it
+module _ (p : Path) (x : ℕ) (q : BoundReply) where
   abbrev Writes : Served Counted BoundReply → Type 0
-  Writes r = r.reply ≡ Some (bound.Write g stores) →
-      HasLock (top_of p) (mode_code mode.Write) (let c = r.part in (let o = c.named in o.rows))
+  Writes r = is_write q ≡ true → r.reply ≡ Some q → HasLock (top_of p) (mode_code mode.Write) (let c = r.part in (let o = c.named in o.rows))
 
-  abbrev is_write : BoundReply → Bool
-  is_write (bound.Write h ss) = true
-  is_write q = false
-
-  none_write : {A : Type 0} (q : BoundReply) → is_write q ≡ false → Some q ≡ Some (bound.Write g stores) → A
-  none_write q off is = let no_way : false ≡ true = sym off ∙ ap is_write (some_is is) in absurd (cc no_way)
+  none_write : {A : Type 0} (z : BoundReply) → is_write z ≡ false → is_write q ≡ true → Some z ≡ Some q → A
+  none_write z off on is = let no_way : false ≡ true = sym off ∙ ap is_write (some_is is) ∙ on in absurd (cc no_way)
 
   named_writes : (inc : ℕ) (include : Bool) (avoid : Binding) (e : Entry) (c : Counted) →
       Writes (bind_named inc x p include avoid e c)
-  named_writes inc true avoid e c = by (conflict_on x p mode.Write c.named)
+  named_writes inc true avoid e c on = by (conflict_on x p mode.Write c.named) on
     where
-      by : (f : Option Row) → Writes (include_asked inc x p e c f)
-      by None is = asked_has (row_for (entry x) (top_path p) (tops_of p) mode.Write) (let o = c.named in o.rows)
-      by (Some r) is = none_write (bound.Conflict (last_uid r.holder) r.mode) refl is
-  named_writes inc false avoid e c = call (live_above avoid c.named.live)
+      by : (r : Option Row) → Writes (include_asked inc x p e c r)
+      by None on is = asked_has (row_for (entry x) (top_path p) (tops_of p) mode.Write) (let o = c.named in o.rows)
+      by (Some r) on is = none_write (bound.Conflict (last_uid r.holder) r.mode) refl on is
+  named_writes inc false avoid e c on = call (live_above avoid c.named.live) on
     where
       live : (l : Live) (f : Option Row) → Writes (live_asked inc x p e c l f)
-      live l None is = none_write _ refl is
-      live l (Some r) is = none_write _ refl is
+      live l None on is = none_write _ refl on is
+      live l (Some r) on is = none_write _ refl on is
 
       made : (m : Option Made) → Writes (bind_made inc x p e c m)
-      made None is = none_write _ refl is
-      made (Some m) is = none_write _ refl is
+      made None on is = asked_has (row_for (entry x) (top_path p) (tops_of p) mode.Write) (let o = c.named in o.rows)
+      made (Some m) on is = asked_has (row_for (entry x) (top_path p) (tops_of p) mode.Write) (let o = c.named in o.rows)
 
       make : (f : Option Row) → Writes (make_asked inc x p avoid e c f)
-      make None is = made (made_above avoid (at_uid (top_of p) c.named.made)) is
-      make (Some r) is = none_write _ refl is
+      make None on is = made (made_above avoid (at_uid (top_of p) c.named.made)) on is
+      make (Some r) on is = none_write _ refl on is
 
       call : (l : Option Live) → Writes (bind_call inc x p avoid e c l)
       call (Some l) = live l (conflict_on x p mode.Read c.named)
       call None = make (conflict_on x p mode.Write c.named)
 
-  pub bind_writes : (include : Bool) (avoid : Binding) (d : Pair) (o : Naming) →
-      (naming.bind p x include avoid d o).reply ≡ Some (bound.Write g stores) →
+  pub bind_writes : (include : Bool) (avoid : Binding) (d : Pair) (o : Naming) → is_write q ≡ true →
+      (naming.bind p x include avoid d o).reply ≡ Some q →
       HasLock (top_of p) (mode_code mode.Write) (naming_rows x (naming.bind p x include avoid d o).part)
-  bind_writes include avoid d o = by (is_over p o)
+  bind_writes include avoid d o on = by (is_over p o)
     where
       named : (f : Option Named.Named) → (let r = on_counted x (bind_named o.inc x p include avoid (listed_entry x d)) o f in
-          r.reply ≡ Some (bound.Write g stores) → HasLock (top_of p) (mode_code mode.Write) (naming_rows x r.part))
+          r.reply ≡ Some q → HasLock (top_of p) (mode_code mode.Write) (naming_rows x r.part))
       named None is = absurd (none_is is)
       named (Some z) is =
           let r = bind_named o.inc x p include avoid (listed_entry x d) (record { named = z; count = o.count }) in
           subst (λ f. HasLock (top_of p) (mode_code mode.Write) (rows_in_named f)) (sym (put_same x (let c = r.part in c.named) o.objects))
-          (named_writes o.inc include avoid (listed_entry x d) (record { named = z; count = o.count }) is)
+          (named_writes o.inc include avoid (listed_entry x d) (record { named = z; count = o.count }) on is)
 
       by : (b : Bool) → (let r = cond {A = Served Naming BoundReply} b (void o)
           (on_counted x (bind_named o.inc x p include avoid (listed_entry x d)) o (at_number x o.objects)) in
-          r.reply ≡ Some (bound.Write g stores) → HasLock (top_of p) (mode_code mode.Write) (naming_rows x r.part))
+          r.reply ≡ Some q → HasLock (top_of p) (mode_code mode.Write) (naming_rows x r.part))
       by true is = absurd (none_is is)
       by false is = named (at_number x o.objects) is

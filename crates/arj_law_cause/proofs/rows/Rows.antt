@@ -10,7 +10,7 @@ use Rattle.std.specs.Prelude.{drop}
 use Words.{last_uid, name, uid_eq, uid_is, uid_same, uids_of, top_of, top_path, tops_of, actor, Reply, response, frame_kind}
 use Words.{⊎_elim, ◌==◌, inl, inr, is_include, At, AtActivate, AtBind, AtInvoke, AtLoad, AtNote, Goal, Include, Run, Steps, Doing, nat_le}
 use Words.{What, binding_eq, binding_less, binding_number, cond, differs, nat_lt, nat_tests, next_ask}
-use Words.{two_incs}
+use Words.{two_incs, Path, suc, zero, tops_of}
 use Rattle.arj_protocol.specs.Order.{greater_binding, lesser_binding}
 use Words.ask
 use Words.body
@@ -38,7 +38,10 @@ use Rattle.arj_journal.specs.ScriptForm.{HeaderInForm}
 use Rattle.arj_model.specs.Actions.{Placed, top_in}
 use Rattle.arj_model.specs.CausePends.{called_at, may_store}
 use Rattle.arj_model.specs.CauseAnswers as cause
-use Rattle.arj_model.specs.CauseCopies.{had_both, is_older, was_bound}
+use Rattle.arj_law_parts.proofs.parts.Begun.{path_some}
+use Rattle.arj_law_runs.proofs.journal.{Models.in_later, Owners.acts_more, Ties.on_path}
+use Rattle.arj_model.specs.Actions.{root_in}
+use Rattle.arj_model.specs.CauseCopies.{had_both, has_entered_in, is_older, was_active_in, was_bound}
 use Rattle.arj_law_runs.proofs.calls.WholeRuns.{few_before}
 use Rattle.arj_law_runs.specs.calls.Bindings.{HasFewBindings, bindings_made}
 use Rattle.arj_model.specs.Refusals.{incarnation}
@@ -62,15 +65,16 @@ use Rattle.arj_law_cause.proofs.rows.Ending.{IsOther, IsOtherInc}
 use Rattle.arj_law_cause.proofs.rows.Ending.{IsChange, OnActivate, OnInvoke, OnLive, OnMake, OnNote}
 use Rattle.arj_law_cause.proofs.rows.Ending.{IsConflict, ByNaming, ByServer, ByStore}
 use Rattle.arj_law_cause.proofs.rows.Holders.{any_later, off_path, one_found, one_passes, upper_from}
-use Rattle.arj_law_cause.proofs.rows.Loading.{IsLocked}
+use Rattle.arj_law_cause.proofs.rows.Entered.{GrantsBegan, entered_then}
+use Rattle.arj_law_cause.proofs.rows.Loading.{IsGrantOf, IsLocked, is_on_way}
 use Rattle.arj_law_cause.proofs.rows.Paths.{one_top, top_is}
 use Rattle.arj_law_cause.proofs.rows.Spans.{answered_at, in_range, or_first, or_last, rows_so, sent_to, shown_from}
 use Rattle.arj_law_cause.proofs.rows.Pending.{IsCalledAt, called_act}
 use Rattle.arj_law_cause.proofs.confirm.Joined.{early_before}
 use Rattle.arj_law_cause.specs.rows.Early.{IsEarly}
 use Rattle.arj_law_cause.specs.rows.Says.{entry_modes, has_changed, has_upper, may_be_in_doubt, may_be_pending, may_pend, says_of}
-use Rattle.arj_law_cause.proofs.rows.Taking.{AskedPaths, IsCaller, IsTaken, IsTold, bind_is}
-use Rattle.arj_law_cause.specs.rows.Lines.{answer_fits, came_from_store, may_differ, may_have_changed, naming_told}
+use Rattle.arj_law_cause.proofs.rows.Taking.{AskedPaths, IsCaller, IsPathAt, IsTaken, IsTold, bind_is}
+use Rattle.arj_law_cause.specs.rows.Lines.{answer_fits, came_from_store}
 
 -- ---- requests
 
@@ -166,6 +170,26 @@ off_any : (ws : List Mode) (us : List Uid) (o : Uid) (u : Uid) (held : Mode) (li
 off_any ws us o u held lines is =
     let q = one_passes (λ asked. meets 1 us o asked u held lines) ws is in off_met 1 us o q.0 u held lines q.2
 
+-- the top stands on its path
+top_on : (p : Path) → is_on (uids_of p) (top_of p) ≡ true
+top_on p = on_taken (tops_of p) (uids_of p) p.one_top (path_some p)
+  where
+    or_later : (a : Bool) {b : Bool} → b ≡ true → (a || b) ≡ true
+    or_later true is = refl
+    or_later false is = is
+
+    on_taken : (n : ℕ) (us : List Uid) → 1 ≤ n → 1 ≤ length us → is_on us (last_uid (take n us)) ≡ true
+    on_taken n [] one some = absurd (omega (arith, some))
+    on_taken zero (u ∷ us) one some = absurd (omega (arith, one))
+    on_taken (suc n) (u ∷ []) one some = by n
+      where
+        by : (m : ℕ) → is_on (u ∷ []) (last_uid (u ∷ take m [])) ≡ true
+        by zero = λ i. uid_same u i || false
+        by (suc m) = λ i. uid_same u i || false
+    on_taken (suc zero) (u ∷ w ∷ us) one some = λ i. uid_same u i || is_on (w ∷ us) u
+    on_taken (suc (suc n)) (u ∷ w ∷ us) one some =
+        or_later (uid_eq u (last_uid (w ∷ take n us))) (on_taken (suc n) (w ∷ us) (omega arith) (omega arith))
+
 -- an action that isn't nested began
 began : (xs : List Act) (u : Uid) → has_upper xs u ≡ true → has_act xs u ≡ true
 began xs u is =
@@ -217,7 +241,7 @@ module _ (hd : Header) (k : ℕ) (M : Moment) (h : Here) (header : h.header ≡ 
 
   -- an include that is done in its top's lock
   pub included_so : (n : ℕ) → s.goal ≡ Include n →
-      IsLocked M.seen.lines M.past.askings w.label (top_of s.path) s.x → includes_caused h (name w.label) s.x n ≡ true
+      IsLocked M.seen.start M.seen.lines M.past.askings w.label s → includes_caused h (name w.label) s.x n ≡ true
   included_so n goal locked = row_so (λ b z. is_include_of s.x n z.event
       && holds_of (λ top. from_place h z.at (has_lock 1 top.uid (entry s.x) mode.Write)) (top_in z.path))
       (λ j. (ap (is_include_of s.x n) (its_event ∙ ap (asks_goal (let g = c.asked.goal in g.0) s.x) goal)
@@ -349,6 +373,10 @@ module _ (hd : Header) (k : ℕ) (M : Moment) (h : Here) (header : h.header ≡ 
     abbrev by_naming : Bool
     by_naming = was_sent h (let z = q in z.at) 1 its_home (frame.Bound ∷ frame.Recorded ∷ [])
 
+    -- naming is at the action's node, or told it so
+    abbrev naming_told : Here → Act → AskedOf → Bool
+    naming_told g b z = (let v = b.uid in v.node == 1) || was_sent g z.at 1 (let v = b.uid in v.node) (frame.Bound ∷ frame.Recorded ∷ [])
+
     naming_says : (what : FrameKind) → from ≡ 1 → frame_kind (response a r) ≡ what →
         list_any (same_frame what) (frame.Bound ∷ frame.Recorded ∷ []) ≡ true → naming_told h c.act q ≡ true
     naming_says what one kind among_them = ⊎_elim {C = naming_told h c.act q ≡ true}
@@ -376,6 +404,10 @@ module _ (hd : Header) (k : ℕ) (M : Moment) (h : Here) (header : h.header ≡ 
     -- ---- what changed
 
     module _ (start : h.start ≡ M.seen.start) (few : HasFewBindings M.seen.lines) (given : IsGiven M.seen.start M.seen.lines)
+        (begins : GrantsBegan M.seen.lines)
+        (locked : is_on_way s.at ≡ true → IsLocked M.seen.start M.seen.lines M.past.askings w.label s)
+        (keeper : (avoid : Binding) → s.at ≡ AtBind avoid → (old : Known) → kept ≡ Some old →
+        list_any (cause.is_other_call (let z = c.asked in let y = z.asking in y.asked) s.x) h.accepted ≡ true)
         (D : IsTold from M s (let z = c.asked in z.asking) r)
         (at_so : IsAtSo (IsLined M.seen.lines) (active_by M.seen.lines) (met_in M.seen.start M.seen.lines) s.x s.goal s.at)
         (keeps_so : IsKeptSo (IsLined M.seen.lines) (active_by M.seen.lines) (met_in M.seen.start M.seen.lines) s.x kept)
@@ -393,20 +425,10 @@ module _ (hd : Header) (k : ℕ) (M : Moment) (h : Here) (header : h.header ≡ 
       -- a call, that was told of the difference, and for which it shows
       caused : (n : ℕ) (v : What) (o : Op) → s.goal ≡ Run o → was_told h n c.act q ≡ true → cause.differs h q n s.x (differs v) ≡ true →
           Fits n v
-      caused n v o goal told is = or_first (cause.changed_caused h (name w.label) n (differs v))
-          (may_have_changed h (name w.label) n (differs v))
-          (row_so (λ b z. is_call z.event && (was_told h n b z && holds_in (λ x. cause.differs h z n x (differs v)) (object_used z.event)))
+      caused n v o goal told is =
+          row_so (λ b z. is_call z.event && (was_told h n b z && holds_in (λ x. cause.differs h z n x (differs v)) (object_used z.event)))
           (λ j. ap is_call (its_event ∙ ap (asks_goal (let g = c.asked.goal in g.0) s.x) goal) j
-          && (told j && (ap (holds_in (λ x. cause.differs h q n x (differs v))) used ∙ is) j)))
-
-      -- or that may have met it
-      partly : (n : ℕ) (v : What) (o : Op) → s.goal ≡ Run o → was_told h n c.act q ≡ true →
-          may_differ h c.act q n s.x (differs v) ≡ true → Fits n v
-      partly n v o goal told is = or_last (cause.changed_caused h (name w.label) n (differs v))
-          (may_have_changed h (name w.label) n (differs v))
-          (row_so (λ b z. is_call z.event && (was_told h n b z && holds_in (λ x. may_differ h b z n x (differs v)) (object_used z.event)))
-          (λ j. ap is_call (its_event ∙ ap (asks_goal (let g = c.asked.goal in g.0) s.x) goal) j
-          && (told j && (ap (holds_in (λ x. may_differ h c.act q n x (differs v))) used ∙ is) j)))
+          && (told j && (ap (holds_in (λ x. cause.differs h q n x (differs v))) used ∙ is) j))
 
       -- what M.seen has, the row has
       met_here : (n : ℕ) (b : Binding) (i : ℕ) → IsActiveIn M.seen.start M.seen.lines n s.x b i → IsActiveIn h.start h.lines n s.x b i
@@ -467,9 +489,16 @@ module _ (hd : Header) (k : ℕ) (M : Moment) (h : Here) (header : h.header ≡ 
           r ≡ Reply.Bound z → IsLined M.seen.lines s.x b server → IsOther kept b n v → Fits n v
       other_so avoid z b server n v o goal at is lined (old, keeps, off, one, two) =
           let ks = subst (IsKeptSo (IsLined M.seen.lines) (active_by M.seen.lines) (met_in M.seen.start M.seen.lines) s.x) keeps keeps_so in
-          partly n v o goal (naming_tells n (bound_says avoid z at is))
-          (subst (λ y. may_differ h c.act q n s.x (differs y) ≡ true) (sym two)
-          (λ i. eq-eqb n 1 one i && (bound_says avoid z at is i && two_bound old.binding b old.server server ks.0 lined off i)))
+          let had = lesser_binding old.binding b in
+          let now = greater_binding old.binding b in
+          let p = and_parts (is_older had now) (was_bound h.lines s.x had && was_bound h.lines s.x now)
+          (two_bound old.binding b old.server server ks.0 lined off) in
+          let bound = and_parts (was_bound h.lines s.x had) (was_bound h.lines s.x now) p.1 in
+          caused n v o goal (naming_tells n (bound_says avoid z at is))
+          (subst (λ y. cause.differs h q n s.x (differs y) ≡ true) (sym two)
+          (λ i. p.0 i && or_last (from_place h (let e = q in e.at) (had_both n s.x had now))
+          ((n == 1) && (was_bound h.lines s.x had && (was_bound h.lines s.x now && list_any (cause.is_other_call q s.x) h.accepted)))
+          (λ j. eq-eqb n 1 one j && (bound.0 j && (bound.1 j && keeper avoid at old keeps j))) i))
 
       -- ---- incarnations
 
@@ -600,20 +629,47 @@ module _ (hd : Header) (k : ℕ) (M : Moment) (h : Here) (header : h.header ≡ 
               d : Differs M.seen.start from s.x (what.Bind had now) D.before
               d = subst (λ z. Differs M.seen.start from s.x z D.before) e so.0
 
+      -- its root has entered where naming granted the lock
+      entered : (x : Known) (i : ℕ) (o : Op) → s.goal ≡ Run o → s.at ≡ AtNote x i →
+          has_entered_in M.seen.start M.seen.lines s.x (root_in (let z = q in z.path)) x.grant ≡ true
+      entered x i o goal at = subst (λ g. has_entered_in M.seen.start M.seen.lines s.x (root_in (let z = q in z.path)) g ≡ true) (sym granted)
+          (entered_then M.seen.start M.seen.lines L.before L.after L.are c.begun c.all c.alike c.distinct c.caller c.there (top_of s.path)
+          (ap (λ p. is_on (uids_of p) (top_of s.path)) c.path ∙ top_on s.path) (let z = q in z.path) (its_path ∙ ap uids_of (sym c.path))
+          among_acts begins s.x mode.Write L.lock)
+        where
+          L : IsLocked M.seen.start M.seen.lines M.past.askings w.label s
+          L = locked (ap is_on_way at)
+
+          granted : x.grant ≡ incarnation M.seen.start L.before 1
+          granted = subst (λ a. IsGrantOf M.seen.start L.before (Run o) a) at (subst (λ g. IsGrantOf M.seen.start L.before g s.at) goal L.inc)
+
+          f : IsPathAt M.seen.lines c.asked.asking
+          f = paths c.asked.asking c.asked.there
+
+          among_acts : (z : Act) → In z (let y = q in y.path) → In z (acts M.seen.lines)
+          among_acts z i = subst (In z) (sym (ap acts f.are ∙ acts_more [] f.first f.more)) (in_later f.more (acts f.first) z
+              (on_path (acts f.first) (label_of (let y = q in y.event)) z (subst (In z) f.path i)))
+
       -- naming is of another incarnation than its grant
       noted_so : (x : Known) (i : ℕ) (o : Op) (n : ℕ) (v : What) → s.goal ≡ Run o → s.at ≡ AtNote x i →
           r ≡ Reply.Noted (recorded.Changed v) → n ≡ 1 → Fits n v
-      noted_so x i o n v goal at is one = subst (λ z. Fits n z) (sym so.1)
-          (partly n (what.Inc x.grant (incarnation M.seen.start D.before 1)) o goal (naming_tells n told_it)
-          (λ j. eq-eqb n 1 one j && (told_it j && (lower x.grant (incarnation M.seen.start D.before 1) so.2 j && shown_at h q 1 s.x
-          D.before D.after (lines ∙ D.are) D.late
-          (incarnation M.seen.start D.before 1) (ap (λ z. incarnation z D.before 1) start) j))))
+      noted_so x i o n v goal at is one = subst (λ z. Fits n z) (sym so.1) (subst (λ m. Fits m (what.Inc x.grant now)) (sym one)
+          (caused 1 (what.Inc x.grant now) o goal (naming_tells 1 told_it)
+          (λ j. lower x.grant now so.2 j && (shown_at h q 1 s.x D.before D.after (lines ∙ D.are) D.late now
+          (ap (λ z. incarnation z D.before 1) start) j && or_last (was_active_in h.start h.lines 1 s.x x.grant)
+          (has_entered_in h.start h.lines s.x (root_in (let z = q in z.path)) x.grant) its_entry j))))
         where
           so : (from ≡ 1) × (v ≡ what.Inc x.grant (incarnation M.seen.start D.before 1))
               × (x.grant < incarnation M.seen.start D.before 1)
           so = subst (λ y. says_differs M.seen.start from (head_of s) y (Reply.Noted (recorded.Changed v)) D.before)
               (record_is D.ask s.x x.binding i x.grant (D.same ∙ (λ j. ask_at s.x s.goal [] (at j))))
               (subst (λ y. says_differs M.seen.start from (head_of s) D.ask y D.before) is D.so)
+
+          now : ℕ
+          now = incarnation M.seen.start D.before 1
+
+          its_entry : has_entered_in h.start h.lines s.x (root_in (let z = q in z.path)) x.grant ≡ true
+          its_entry = (λ j. has_entered_in (start j) (lines j) s.x (root_in (let z = q in z.path)) x.grant) ∙ entered x i o goal at
 
           lower : (j k : ℕ) → j < k → nat_lt j k ≡ true
           lower j k is = grind (arith, nat_tests, is)
@@ -632,7 +688,7 @@ module _ (hd : Header) (k : ℕ) (M : Moment) (h : Here) (header : h.header ≡ 
           let no_way : true ≡ false = sym (eq-eqb first i (live_kept run.0 run.1 avoid at b server i g stores is old first keeps has same))
           ∙ off in absurd (cc no_way)
       changed_so n v (OnMake avoid b server g stores at is other) =
-          let run = bound_to avoid (bound.Make b server g stores) at is (λ so. so) in
+          let run = bound_to avoid (bound.Make b server g stores) at is (λ so. so.0) in
           let so = bound_reply avoid (bound.Make b server g stores) at is in
           other_so avoid (bound.Make b server g stores) b server n v run.0 run.1 at is so.1 other
       changed_so n v (OnActivate x u i at is other) =

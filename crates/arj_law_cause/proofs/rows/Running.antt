@@ -104,7 +104,7 @@ module _ (hd : Header) (before : List Line) (event : ℕ) (early : (j : ℕ) →
       (steps_both hd (Wide Known) (Wide (Showing hd (length before) event)) (let k = known_wide hd in k.steps)
       (wide_steps hd ⊤ (Showing hd (length before) event) (showing_kept hd (length before) event ⊤ tt))) (inside_step before event hd)
 
-  tells : Tells (λ M. Tables hd before event M × Rights hd M) (says_so hd)
+  pub tells : Tells (λ M. Tables hd before event M × Rights hd M) (says_so hd)
   tells k d t v from m h a r front M both there other meant asking new is =
       let known = both.0 in
       let s = known.0.1 in

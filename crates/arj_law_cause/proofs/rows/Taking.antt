@@ -1,12 +1,13 @@
 -- What is known where a call's line is written: the action that asked, what it asked, and the answer that is taken.
 use Rattle.arj_law_parts.proofs.Words
-use Words.{⊎_elim, ◌≡◌, ◌⊎◌, ◌≤◌, ◌∙◌, ◌+◌, ◌==◌, ◌++◌, ◌&&◌, ◌||◌, not, ℕ, Bool, true, false, cond, List, [], length, Option, Some, None}
+use Words.{⊎_elim, ◌≡◌, ◌⊎◌, ◌≤◌, ◌∙◌, ◌+◌, ◌==◌, ◌++◌, ◌&&◌, ◌||◌, not, ℕ, Bool, true, false, cond, List, [], ◌∷◌, length, Option, Some, None}
 use Words.{refl, sym, ap, subst, inl, inr, arith, and_parts, eqb-true, eq-eqb, is_some, bytes_eq, In, in_find, in_to}
-use Words.{Head, Post, asked_by, asks, Ask, Asked, Header, Line, Message, Uid, name, Reply, actor, answers, frame_kind, response}
+use Words.{Start, Head, Post, asked_by, asks, Ask, Asked, Header, Line, Message, Uid, name, Reply, actor, answers, frame_kind, response}
 use Words.{reply_kind}
 use Words.{ask_kind, next_ask, next_node, waits_for_call, Steps, Calling, Doing, doing_of, Disk, Parts, Node, at_place, is_own, Contains}
 use Words.{Binding, End, Kind, is_serial, kept_at, kept_of}
-use Words.{root_at, root_of}
+use Words.{root_at, root_of, first_uid, uid_same}
+use Rattle.arj_law_parts.proofs.parts.Begun.{path_some}
 use Words.{Branch, Committing, Idle, Now, branch_of, is_committing_now, is_on, plan_of, uids_of}
 use Words.ask
 use Words.kind
@@ -81,6 +82,10 @@ AskedPaths M = (q : Asking) → In q M.past.askings → IsPathAt M.seen.lines q
 
 -- ---- a node at work
 
+-- an answer says both, of the same lines
+abbrev pub both_so : Header → Start → Saying
+both_so hd st a before = says_so hd a before × differs_so st a before
+
 pub record Works (hd : Header) (k : ℕ) (d : Disk) (t : Parts) (M : Moment) : Type 0 where
   pub paths : HasPaths (up k d t M)
   pub tied : AskedAreTied (up k d t M)
@@ -91,6 +96,7 @@ pub record Works (hd : Header) (k : ℕ) (d : Disk) (t : Parts) (M : Moment) : T
   pub full : AnswersAreMade says_full (up k d t M)
   pub bindings : Wide KnowsBindings (up k d t M)
   pub differs : AnswersAreMade (differs_so M.seen.start) (up k d t M)
+  pub both : AnswersAreMade (both_so hd M.seen.start) (up k d t M)
   pub reached : Wide (Reached hd) (up k d t M)
   pub form : HeaderInForm hd
 
@@ -126,6 +132,17 @@ pub record IsTaken (hd : Header) (k from : ℕ) (M : Moment) (s : Steps) (q : As
   pub late : (let e = q.asked in e.at) ≤ length before
   pub framed : (from ≡ k) ⊎ BeginsWith from k (frame_kind (response a r)) after
   pub so : says_of hd from (head_of s) ask r before
+
+-- The answer was made where it says both.
+pub record IsGranted (hd : Header) (from : ℕ) (M : Moment) (s : Steps) (q : Asking) (r : Reply) : Type 0 where
+  pub ask : Ask
+  pub same : bare ask ≡ next_ask [] s
+  pub before : List Line
+  pub after : List Line
+  pub are : M.seen.lines ≡ before ++ after
+  pub late : (let e = q.asked in e.at) ≤ length before
+  pub so : says_of hd from (head_of s) ask r before
+  pub differs : says_differs M.seen.start from (head_of s) ask r before
 
 -- The answer was made where something changed, if it finds that.
 pub record IsTold (from : ℕ) (M : Moment) (s : Steps) (q : Asking) (r : Reply) : Type 0 where
@@ -169,6 +186,34 @@ module _ (hd : Header) (k : ℕ) (d : Disk) (t : Parts) (M : Moment) (W : Works 
 
   pub call : IsTied M.past.askings M.seen.lines u w (Some s)
   call = subst (IsTied M.past.askings M.seen.lines u w) (ap calling is) (own_of k d t M W.tied u w found)
+
+  -- its root is the coordinator's
+  pub root_own : is_own (root_of s.path) t.coord.tree ≡ true
+  root_own = by (is_own (root_of s.path) t.coord.tree) refl branch.1
+    where
+      begun : List Action
+      begun = W.paths.2.0
+
+      tree : IsTree (paths_of begun)
+      tree = begun_tree begun (let g = W.paths.2.1.1.0 in g.begun)
+
+      good : IsGoodCoord begun (paths_of begun) t.coord
+      good = knows.coord
+
+      first_on : (us : List Uid) → 1 ≤ length us → is_on us (first_uid us) ≡ true
+      first_on [] some = absurd (omega (arith, some))
+      first_on (v ∷ us) some = λ i. uid_same v i || is_on us v
+
+      over_path : is_on (paths_of begun u) (root_of s.path) ≡ true
+      over_path = ap (λ us. is_on us (root_of s.path)) (sym (good.tree.lists.paths_are u asking.branch asking.found))
+          ∙ ap (λ p. is_on (uids_of p) (root_of s.path)) asking.path ∙ first_on (uids_of s.path) (path_some s.path)
+
+      branch : (c : Branch) × (branch_of (root_of s.path) t.coord.tree ≡ Some c)
+      branch = above_there (paths_of begun) tree t.coord.tree good.tree.lists (root_of s.path) u asking.branch asking.found over_path
+
+      by : (b : Bool) → is_own (root_of s.path) t.coord.tree ≡ b → branch_of (root_of s.path) t.coord.tree ≡ Some branch.0 → b ≡ true
+      by true e at = refl
+      by false e at = none_is (sym (λ i. cond (e i) (at_place (let r = root_of s.path in r.num) (let z = t.coord.tree in z.branches)) None) ∙ at)
 
   -- whose commit was called isn't on the path of one that asks
   pub off_called : (v : Uid) (ls ms : List Line) → M.seen.lines ≡ ls ++ ms → IsCalledAt ls v → is_on (uids_of s.path) v ≡ false
@@ -435,6 +480,23 @@ module _ (hd : Header) (k : ℕ) (d : Disk) (t : Parts) (M : Moment) (W : Works 
           framed = ⊎_elim (λ here. inl here) (λ f. inr (⊎_elim {C = BeginsWith from k (frame_kind (response a r)) z.after}
               (λ b. subst (λ x. BeginsWith from k (frame_kind (response x r)) z.after) ans.2 b) (λ never. absurd never) f)) z.framed;
           so = subst (λ h. says_of hd from h ans.1 r z.before) (let o = made_by (says_so hd) ans in o.head) z.so;
+        }
+
+    -- where naming grants a lock
+    pub granted : IsGranted hd from M s (let c = caller in let q = c.asked in q.asking) r
+    granted =
+        let ans = W.both.sent (post from k m) a r sent_it answer in
+        let q = ans.3 in
+        let z = q.made in record {
+          ask = ans.1;
+          same = (let o = made_by (both_so hd M.seen.start) ans in o.same);
+          before = z.before;
+          after = z.after;
+          are = z.are;
+          late = late (both_so hd M.seen.start) ans;
+          so = subst (λ h. says_of hd from h ans.1 r z.before) (let o = made_by (both_so hd M.seen.start) ans in o.head) z.so.0;
+          differs = subst (λ h. says_differs M.seen.start from h ans.1 r z.before)
+              (let o = made_by (both_so hd M.seen.start) ans in o.head) z.so.1;
         }
 
     -- where it finds something changed

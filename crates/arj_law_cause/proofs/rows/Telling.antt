@@ -40,12 +40,12 @@ use Rattle.arj_law_runs.proofs.calls.WorldSteps.{reads_back}
 use Rattle.arj_law_serial.proofs.holding.{Lines.Since, Lines.since_all, Running.Showing, Running.showing_kept, Writes.none_starts}
 use Rattle.arj_law_serial.proofs.holding.Says.{All, says}
 use Rattle.arj_law_serial.proofs.holding.Sorts.{is_no_start}
-use Rattle.arj_model.specs.CauseAnswers.{meets}
+use Rattle.arj_model.specs.CauseAnswers.{has_lock, meets}
 use Rattle.arj_model.specs.Table.{table}
 use Rattle.arj_protocol.specs.Laws.{naming_rows}
 use Rattle.arj_law_cause.proofs.rows.Inside.{handle_starts}
 use Rattle.arj_law_cause.proofs.rows.Holders.{begun_act, entry_upper, upper_act}
-use Rattle.arj_law_cause.proofs.rows.Meeting.{Meets, bind_meets, bind_writes, invoke_meets, invoke_runs, lock_by, meets_by}
+use Rattle.arj_law_cause.proofs.rows.Meeting.{Meets, bind_meets, bind_writes, invoke_meets, invoke_runs, is_write, lock_by, meets_by}
 use Rattle.arj_journal.specs.ScriptForm.{HeaderInForm}
 use Rattle.arj_model.specs.CausePends.{may_store}
 use Rattle.arj_law_cause.specs.rows.{Early.IsEarly, Says.has_changed, Says.has_upper, Says.says_of, Says.may_be_pending, Tables.Inside}
@@ -356,15 +356,23 @@ module _ (hd : Header) (before : List Line) (event : ℕ) (early : (j : ℕ) →
             one : (k == 1) ≡ true
             one = sym place ∙ ap is_some there
 
-            says : (q : BoundReply) → (naming.bind h.path x include avoid d.names o).reply ≡ Some q → Bound x include avoid o ≡ v →
-                says_of hd k h (ask.Bind x include avoid) (Reply.Bound q) lines
-            says (bound.Live b s i g stores) at same = bind_kind h.path x include avoid d.names o (bound.Live b s i g stores) at
-            says (bound.Make b s g stores) at same = bind_kind h.path x include avoid d.names o (bound.Make b s g stores) at
-            says (bound.Write g stores) at same =
+            -- under the write lock
+            written : (q : BoundReply) → is_write q ≡ true → (naming.bind h.path x include avoid d.names o).reply ≡ Some q →
+                Bound x include avoid o ≡ v → has_lock 1 (top_of h.path) (entry x) mode.Write lines ≡ true
+            written q on at same =
                 lock_by 1 (top_of h.path) (entry x) mode.Write lines (naming_rows x (naming.bind h.path x include avoid d.names o).part)
                 (subst (λ n. rows_on (entry x) (table n lines) ≡ named_locks x v.naming) (eqb-true k 1 one) (shown.naming x one)
                 ∙ ap (λ (y : Parts). named_locks x y.naming) (sym same))
-                (bind_writes h.path x g stores include avoid d.names o at)
+                (bind_writes h.path x q include avoid d.names o on at)
+
+            says : (q : BoundReply) → (naming.bind h.path x include avoid d.names o).reply ≡ Some q → Bound x include avoid o ≡ v →
+                says_of hd k h (ask.Bind x include avoid) (Reply.Bound q) lines
+            says (bound.Live b s i g stores) at same = bind_kind h.path x include avoid d.names o (bound.Live b s i g stores) at
+            says (bound.Make b s g stores) at same = (
+              bind_kind h.path x include avoid d.names o (bound.Make b s g stores) at,
+              written (bound.Make b s g stores) refl at same,
+            )
+            says (bound.Write g stores) at same = written (bound.Write g stores) refl at same
             says (bound.Conflict u m) at same =
                 let z = bind_meets h.path x u m include avoid d.names o at in (
                   eqb-true k 1 one,

@@ -11,9 +11,10 @@ use Rattle.arj_law_parts.proofs.Terms.which
 use Rattle.arj_law_serial.proofs.Terms.{IsAtStarts}
 use Rattle.arj_law_lock_view.proofs.asking.{Keeping.first_tied, Keeping.tied_step, Tied.Pathed, Tied.paths_of_wide, Tied.pathed_wide}
 use Rattle.arj_law_lock_view.specs.asking.Asked.{AskedAreTied, accepted_of}
+use Rattle.arj_law_lock_view.proofs.moments.Answers.{answers_step, first_made, made_closes, made_later, made_opens}
 use Rattle.arj_law_lock_view.specs.moments.Made.{AnswersAreMade}
 use Rattle.arj_law_parts.proofs.moves.{Happens.Wide, Happens.keeps_asked, Happens.wide_kept}
-use Rattle.arj_law_parts.specs.moves.Moments.{History, Moment, come, gone, no_history, up}
+use Rattle.arj_law_parts.specs.moves.Moments.{History, Moment, come, gone, no_history, said, up}
 use Rattle.arj_law_parts.specs.moves.With.{KeepsSteps, KeepsWith, asked_at, asked_of_node, look, past_event, past_unless, written}
 use Rattle.arj_law_parts.specs.steps.Writes as writes
 use Rattle.arj_law_runs.proofs.addresses.Runs.{kept}
@@ -29,20 +30,22 @@ use Rattle.arj_journal.specs.ScriptForm.{HeaderInForm}
 use Rattle.arj_model.specs.CauseSpans.{here_at}
 use Rattle.arj_model.specs.Actions.{acts, path}
 use Rattle.arj_model.specs.Follows.{Runs}
-use Rattle.arj_model.specs.Past.{Along, Past, asked_of, at_start, block, is_refused, label_of, next}
+use Words.{◌≤◌, ◌<◌, AllByRecursion}
+use Rattle.arj_model.specs.Past.{Asked as AskedOf, Along, Past, asked_of, at_start, block, is_refused, label_of, next}
 use Rattle.arj_promise.specs.Runs.{IsStoppedInForm, journal_by}
 use Rattle.arj_law_cause.proofs.rows.{Accepting.asked_same, Accepting.refused_asks, Accepting.same_refusal, Asks.AreSameAsks}
 use Rattle.arj_law_cause.proofs.rows.{Asks.asks_some}
+use Rattle.arj_law_cause.proofs.rows.Calls.{AreRising, rising_more}
 use Rattle.arj_law_cause.proofs.rows.Lined
 use Rattle.arj_law_cause.proofs.rows.Running
 use Rattle.arj_law_cause.proofs.rows.Running.{Beside, InEvent, StandsSo, event_step, steps_both}
 use Rattle.arj_law_cause.proofs.rows.Locked.{LoadsAreLocked, first_locked, locked_step, more_are}
-use Rattle.arj_law_cause.proofs.rows.Differing.{differs_so}
+use Rattle.arj_law_cause.proofs.rows.Differing.{differs_so, tells_differs}
 use Rattle.arj_law_cause.proofs.rows.Starting.{Differing, differing_keep}
-use Rattle.arj_law_cause.proofs.rows.Taking.{AskedPaths, Works}
+use Rattle.arj_law_cause.proofs.rows.Taking.{AskedPaths, Works, both_so}
 use Rattle.arj_law_cause.proofs.waits.lost.Bound.{Stocked, stocked_keep}
-use Rattle.arj_law_cause.proofs.confirm.{Joined.early_before, Runs.runs_early}
-use Rattle.arj_law_cause.specs.rows.Early.{IsEarly}
+use Rattle.arj_law_cause.proofs.rows.Entered.{IsSettled, settled_before}
+use Rattle.arj_law_cause.proofs.rows.Settled.{runs_settled}
 use Rattle.arj_law_cause.specs.rows.Lines.{AnswersHaveCauses, AnswersStep, answer_fits}
 
 none_is : {A P : Type 0} {x : A} → None ≡ Some x → P
@@ -62,7 +65,46 @@ same_event (Some a) w g = by (at_place a.0 w.nodes)
 
 -- its answers fit, where the journal is in form by then
 abbrev EarlyStep : Header → Past → Event → List Body → Type 0
-EarlyStep hd p e bodies = IsEarly (p.lines ++ block (p.count + 1) bodies) → AnswersStep hd p e bodies
+EarlyStep hd p e bodies = IsSettled (p.lines ++ block (p.count + 1) bodies) → AnswersStep hd p e bodies
+
+-- accepted events have rising numbers, up to those that came
+pub record AreCounted (p : Past) : Type 0 where
+  pub rising : AreRising p.accepted
+  pub low : AllByRecursion (λ (a : AskedOf). a.number ≤ p.count) p.accepted
+
+counted_next : (p : Past) (e : Event) (bodies : List Body) → AreCounted p → AreCounted (next p e bodies)
+counted_next p e bodies c = let z = of (is_refused bodies) in record { rising = z.0; low = z.1 }
+  where
+    up : (m n : ℕ) → m ≤ n → m ≤ n + 1
+    up m n le = omega (arith, le)
+
+    less : (m n : ℕ) → m ≤ n → m < n + 1
+    less m n le = omega (arith, le)
+
+    itself : (n : ℕ) → n + 1 ≤ n + 1
+    itself n = omega arith
+
+    all_up : (ks : List AskedOf) → AllByRecursion (λ (a : AskedOf). a.number ≤ p.count) ks →
+        AllByRecursion (λ (a : AskedOf). a.number ≤ p.count + 1) ks
+    all_up [] all = tt
+    all_up (a ∷ ks) all = (up a.number p.count all.0, all_up ks all.1)
+
+    all_less : (ks : List AskedOf) → AllByRecursion (λ (a : AskedOf). a.number ≤ p.count) ks →
+        AllByRecursion (λ (a : AskedOf). a.number < p.count + 1) ks
+    all_less [] all = tt
+    all_less (a ∷ ks) all = (less a.number p.count all.0, all_less ks all.1)
+
+    one_more : (ks : List AskedOf) → AllByRecursion (λ (a : AskedOf). a.number ≤ p.count + 1) ks →
+        AllByRecursion (λ (a : AskedOf). a.number ≤ p.count + 1) (ks ++ asked_of p e ∷ [])
+    one_more [] all = (itself p.count, tt)
+    one_more (a ∷ ks) all = (all.0, one_more ks all.1)
+
+    Counted : List AskedOf → Type 0
+    Counted ks = AreRising ks × AllByRecursion (λ (a : AskedOf). a.number ≤ p.count + 1) ks
+
+    of : (b : Bool) → Counted (if b then p.accepted else p.accepted ++ asked_of p e ∷ [])
+    of true = (c.rising, all_up p.accepted c.low)
+    of false = (rising_more p.accepted (asked_of p e) c.rising (all_less p.accepted c.low), one_more p.accepted (all_up p.accepted c.low))
 
 module _ (hd : Header) (form : HeaderInForm hd) (st : Start) where
   -- ---- what is known
@@ -96,24 +138,26 @@ module _ (hd : Header) (form : HeaderInForm hd) (st : Start) where
 
   -- between events, and inside of one
   abbrev Between : Moment → Type 0
-  Between M = (Tied M × LoadsAreLocked M) × AskedPaths M
+  Between M = ((Tied M × AnswersAreMade (both_so hd st) M) × LoadsAreLocked M) × AskedPaths M
 
   abbrev Inner : List Line → ℕ → Moment → Type 0
-  Inner before event M = ((InEvent hd before event M × Tied M) × LoadsAreLocked M) × Lined.Lined hd st before event M
+  Inner before event M = (((InEvent hd before event M × Tied M) × AnswersAreMade (both_so hd st) M) × LoadsAreLocked M)
+      × Lined.Lined hd st before event M
 
   works : (before : List Line) (event k : ℕ) (d : Disk) (t : Parts) (M : Moment) →
-      InEvent hd before event (up k d t M) × Tied (up k d t M) → Works hd k d t M
+      (InEvent hd before event (up k d t M) × Tied (up k d t M)) × AnswersAreMade (both_so hd st) (up k d t M) → Works hd k d t M
   works before event k d t M h = record {
-    paths = paths_of_wide (up k d t M) h.1.0.0;
-    tied = h.1.1;
-    known = h.0.0.0.0.0;
-    all = h.1.0.1.0;
-    addressed = h.1.0.1.1.0;
-    made = h.0.1;
-    full = h.1.0.1.1.1.0.1;
-    bindings = h.1.0.1.1.1.1.0.1;
-    differs = subst (λ z. AnswersAreMade (differs_so z) (up k d t M)) (sym h.1.0.1.1.1.1.0.0) h.1.0.1.1.1.1.1;
-    reached = (h.0.0.1.0.0, h.0.0.1.0.1, h.0.0.1.0.2.1);
+    paths = paths_of_wide (up k d t M) h.0.1.0.0;
+    tied = h.0.1.1;
+    known = h.0.0.0.0.0.0;
+    all = h.0.1.0.1.0;
+    addressed = h.0.1.0.1.1.0;
+    made = h.0.0.1;
+    full = h.0.1.0.1.1.1.0.1;
+    bindings = h.0.1.0.1.1.1.1.0.1;
+    differs = subst (λ z. AnswersAreMade (differs_so z) (up k d t M)) (sym h.0.1.0.1.1.1.1.0.0) h.0.1.0.1.1.1.1.1;
+    both = subst (λ z. AnswersAreMade (both_so hd z) (up k d t M)) (sym h.0.1.0.1.1.1.1.0.0) h.1;
+    reached = (h.0.0.0.1.0.0, h.0.0.0.1.0.1, h.0.0.0.1.0.2.1);
     form = form;
   }
 
@@ -121,34 +165,44 @@ module _ (hd : Header) (form : HeaderInForm hd) (st : Start) where
   its_beside = record {
     inner = λ before event early.
         let both = steps_both hd (InEvent hd before event) Tied (event_step hd before event early) tied_steps in
-        Lined.lined_step hd st before event (λ M. (InEvent hd before event M × Tied M) × LoadsAreLocked M)
-        (locked_step hd (λ M. InEvent hd before event M × Tied M) both (λ k d t M h. works before event k d t M h))
-        (λ k d t M h. works before event k d t M h.0) (λ k d t M h. h.1) (λ k d t M h. h.0.1.0.1.1.1.1.0.0);
-    knows = λ before event M h. h.0.0.0;
+        let told = answers_step hd (both_so hd st) (λ M. InEvent hd before event M × Tied M) both (λ M h. h.0.0.0.0.0)
+        (λ k d t v from m asks a r front M g there other meant asking new is. (
+          Running.tells hd before event early k d t v from m asks a r front M g.0.0 there other meant asking new is,
+          tells_differs st k d t v from m asks a r front M g.1.0.1.1.1.1.0 there other meant asking new is,
+        )) in
+        Lined.lined_step hd st before event
+        (λ M. ((InEvent hd before event M × Tied M) × AnswersAreMade (both_so hd st) M) × LoadsAreLocked M)
+        (locked_step hd (λ M. (InEvent hd before event M × Tied M) × AnswersAreMade (both_so hd st) M) told
+        (λ k d t M h. works before event k d t M h))
+        (λ k d t M h. works before event k d t M h.0) (λ k d t M h. h.1) (λ k d t M h. h.0.0.1.0.1.1.1.1.0.0);
+    knows = λ before event M h. h.0.0.0.0;
     opens = λ e M first number h. (
       (
         (
           (
-            h.0.0.0.0,
             (
-              h.0.0.0.1.0,
+              h.0.0.0.0.0,
               (
-                h.0.0.0.1.1.0,
+                h.0.0.0.0.1.0,
                 (
-                  (let k = stocked_keep hd form in k.opens e M first number h.0.0.0.1.1.1.0),
-                  (let k = differing_keep st hd in k.opens e M first number h.0.0.0.1.1.1.1),
+                  h.0.0.0.0.1.1.0,
+                  (
+                    (let k = stocked_keep hd form in k.opens e M first number h.0.0.0.0.1.1.1.0),
+                    (let k = differing_keep st hd in k.opens e M first number h.0.0.0.0.1.1.1.1),
+                  ),
                 ),
               ),
             ),
+            (let t = h.0.0.0.1 in record { tied = t.tied; new = t.new }),
           ),
-          (let t = h.0.0.1 in record { tied = t.tied; new = t.new }),
+          made_opens (both_so hd st) e M first number h.0.0.1,
         ),
         h.0.1,
       ),
       h.1,
     );
     enters = λ before event M number first lines k h. (
-      ((k, h.0.0), h.0.1),
+      (((k, h.0.0.0), h.0.0.1), h.0.1),
       record {
         number = number;
         first = first;
@@ -162,19 +216,22 @@ module _ (hd : Header) (form : HeaderInForm hd) (st : Start) where
       (
         (
           (
-            h.0.0.1.0.0,
             (
-              h.0.0.1.0.1.0,
+              h.0.0.0.1.0.0,
               (
-                h.0.0.1.0.1.1.0,
+                h.0.0.0.1.0.1.0,
                 (
-                  (let k = stocked_keep hd form in k.closes bodies M number lines h.0.0.1.0.1.1.1.0),
-                  (let k = differing_keep st hd in k.closes bodies M number lines h.0.0.1.0.1.1.1.1),
+                  h.0.0.0.1.0.1.1.0,
+                  (
+                    (let k = stocked_keep hd form in k.closes bodies M number lines h.0.0.0.1.0.1.1.1.0),
+                    (let k = differing_keep st hd in k.closes bodies M number lines h.0.0.0.1.0.1.1.1.1),
+                  ),
                 ),
               ),
             ),
+            (let t = h.0.0.0.1.1 in record { tied = t.tied; new = t.new }),
           ),
-          (let t = h.0.0.1.1 in record { tied = t.tied; new = t.new }),
+          made_closes (both_so hd st) bodies M number lines h.0.0.1,
         ),
         h.0.1,
       ),
@@ -182,8 +239,17 @@ module _ (hd : Header) (form : HeaderInForm hd) (st : Start) where
     );
     labels = λ M h. (
       (
-        tied_steps.quiet (body.Limit which.Labels ∷ []) M refl h.0.0,
-        λ j n t there live. more_are M.seen.lines (numbered M.past.number (body.Limit which.Labels ∷ [])) M.past.askings t.coord
+        (
+          tied_steps.quiet (body.Limit which.Labels ∷ []) M refl h.0.0.0,
+          made_later (both_so hd st) M (said (body.Limit which.Labels ∷ []) M) (record {
+            more = numbered M.past.number (body.Limit which.Labels ∷ []);
+            lines = refl;
+            askings = refl;
+            sent = λ p i. i;
+            full = λ f. f;
+          }) (λ j. refl) (λ p i. i) h.0.0.1,
+        ),
+        λ j n t there live. more_are M.seen.start M.seen.lines (numbered M.past.number (body.Limit which.Labels ∷ [])) M.past.askings t.coord
             (h.0.1 j n t there live),
       ),
       λ q i. Lined.path_more M.seen.lines (numbered M.past.number (body.Limit which.Labels ∷ [])) q (h.1 q i),
@@ -199,6 +265,7 @@ module _ (hd : Header) (form : HeaderInForm hd) (st : Start) where
     pub so : StandsSo hd Between Inner its_beside history w
     pub start : p.start ≡ st
     pub asks : AreSameAsks p.accepted (accepted_of history.askings)
+    pub rises : AreCounted p
 
   module _ (m : Move) (p : Past) (w : World) (stops : IsStoppedInForm m) (s : Stands p w) (on : w.over ≡ false) where
     abbrev e : Event
@@ -353,8 +420,8 @@ module _ (hd : Header) (form : HeaderInForm hd) (st : Start) where
               number = count_is i + 1;
               first = length (lines_are i);
               lines = lines_are i;
-            }) (wrote i)) ∙ L.fit (subst IsEarly ((λ i. lines_are i ++ block (count_is i + 1) bodies) ∙ lines) early)
-            (next p e bodies).accepted accepted_same
+            }) (wrote i)) ∙ L.fit (subst IsSettled ((λ i. lines_are i ++ block (count_is i + 1) bodies) ∙ lines) early)
+            (next p e bodies).accepted (accepted_same, (counted_next p e bodies s.rises).rising)
 
       stands_then : refusing.Stands hd form (next p e bodies) (moved m w) → Agrees → Stands (next p e bodies) (moved m w)
       stands_then base agrees = record {
@@ -363,6 +430,7 @@ module _ (hd : Header) (form : HeaderInForm hd) (st : Start) where
         so = Running.move_so hd Between Inner its_beside m s.history w s.so;
         start = s.start;
         asks = agrees;
+        rises = counted_next p e bodies s.rises;
       }
 
       went : Came e arm (counted v) bodies →
@@ -387,16 +455,19 @@ module _ (hd : Header) (form : HeaderInForm hd) (st : Start) where
     (
       (
         (
-          ([], (λ p i. i), (let k = pathed_wide hd in k.first st formed)),
           (
-            ([], (λ p i. i), (let k = halts_wide in k.first st formed)),
+            ([], (λ p i. i), (let k = pathed_wide hd in k.first st formed)),
             (
-              ([], (λ p i. i), (let k = names_wide in k.first st formed)),
-              ((let k = stocked_keep hd form in k.first st formed), (let k = differing_keep st hd in k.first formed)),
+              ([], (λ p i. i), (let k = halts_wide in k.first st formed)),
+              (
+                ([], (λ p i. i), (let k = names_wide in k.first st formed)),
+                ((let k = stocked_keep hd form in k.first st formed), (let k = differing_keep st hd in k.first formed)),
+              ),
             ),
           ),
+          (let t = first_tied hd st in record { tied = t.tied; new = t.new }),
         ),
-        (let t = first_tied hd st in record { tied = t.tied; new = t.new }),
+        first_made hd (both_so hd st) st formed,
       ),
       first_locked hd st,
     ),
@@ -410,6 +481,7 @@ module _ (hd : Header) (form : HeaderInForm hd) (st : Start) where
     so = Running.first_so hd Between Inner its_beside st formed (first_between formed);
     start = refl;
     asks = refl;
+    rises = record { rising = tt; low = tt };
   }
 
 -- ---- journals in form
@@ -422,13 +494,13 @@ along_more P (e ∷ es) p end h =
     let r = along_more P es (next p e h.0) end h.2 in
     (block (p.count + 1) h.0 ++ r.0, r.1 ∙ append_assoc p.lines (block (p.count + 1) h.0) r.0)
 
-early_along : (hd : Header) (es : List Event) (p end : Past) → Along (EarlyStep hd) p es end → IsEarly end.lines →
+early_along : (hd : Header) (es : List Event) (p end : Past) → Along (EarlyStep hd) p es end → IsSettled end.lines →
     Along (AnswersStep hd) p es end
 early_along hd [] p end h early = h
 early_along hd (e ∷ es) p end h early =
     let r = along_more (EarlyStep hd) es (next p e h.0) end h.2 in (
       h.0,
-      h.1 (early_before (let z = next p e h.0 in z.lines) r.0 (subst IsEarly r.1 early)),
+      h.1 (settled_before (let z = next p e h.0 in z.lines) r.0 (subst IsSettled r.1 early)),
       early_along hd es (next p e h.0) end h.2 early,
     )
 
@@ -443,7 +515,7 @@ answers_are_caused hd r form =
       runs.0,
       runs.1,
       early_along hd (run_events hd r) (at_start r.start) runs.0 runs.2
-          (early_before end.lines runs.1 (subst IsEarly runs.3 (runs_early hd r form))),
+          (settled_before end.lines runs.1 (subst IsSettled runs.3 (runs_settled hd r form))),
       runs.3,
       runs.4,
     )

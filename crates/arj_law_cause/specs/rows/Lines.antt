@@ -1,5 +1,5 @@
 -- The lines that answer calls, against the causes that the journal has for them.
-use Rattle.std.specs.Prelude.{◌≡◌, ◌==◌, ℕ, List, [], ◌∷◌, Bool, true, ◌&&◌, ◌||◌, nat_lt, not}
+use Rattle.std.specs.Prelude.{◌≡◌, ℕ, List, [], ◌∷◌, Bool, true, ◌&&◌, ◌||◌, not}
 use Rattle.arj_base.specs.Rows.{is_on}
 use Rattle.arj_base.specs.declared.mode.Mode.{Mode}
 use Rattle.arj_base.specs.declared.uid.Uid.{Uid}
@@ -7,19 +7,15 @@ use Rattle.arj_base.specs.declared.mode.Mode.TheVariants.{Write}
 use Rattle.arj_journal.specs.declared.body.Body.{Body}
 use Rattle.arj_journal.specs.declared.body.Body.TheVariants as body
 use Rattle.arj_journal.specs.declared.body.FrameKind.TheVariants as frame
-use Rattle.arj_journal.specs.declared.body.Difference.{Difference}
-use Rattle.arj_journal.specs.declared.body.Difference.TheVariants as difference
 use Rattle.arj_journal.specs.declared.event.Event.{Event}
 use Rattle.arj_journal.specs.declared.header.Header.{Header}
 use Rattle.arj_text.specs.Label.{name}
-use Rattle.arj_model.specs.Actions.{Act, uids}
-use Rattle.arj_model.specs.CauseAnswers.{was_told}
-use Rattle.arj_model.specs.CauseCopies.{is_older, was_bound}
-use Rattle.arj_model.specs.CauseSpans.{Here, act_by, answered, asks_so, from_place, here_at, holds_in, is_call, same_mode, was_sent}
-use Rattle.arj_model.specs.Past.{Asked, Past}
+use Rattle.arj_model.specs.Actions.{uids}
+use Rattle.arj_model.specs.CauseSpans.{Here, act_by, answered, asks_so, here_at, holds_in, same_mode}
+use Rattle.arj_model.specs.Past.{Past}
 use Rattle.arj_model.specs.Caused.{has_cause}
 use Rattle.arj_model.specs.Follows.{Runs}
-use Rattle.arj_model.specs.Refusals.{incarnation, object_used}
+use Rattle.arj_model.specs.Refusals.{object_used}
 use Rattle.arj_law_runs.specs.follow.Frames.{are_so, run_events}
 use Rattle.arj_law_cause.specs.rows.Says.{may_be_in_doubt}
 use Rattle.arj_promise.specs.Runs.{IsInForm, Run, journal_by}
@@ -33,31 +29,14 @@ came_from_store h l u held n = same_mode held Write
     && asks_so h l (λ a k. not (is_on (uids k.path) u)
     && holds_in (λ x. answered h k.at a.uid.node n (frame.Loaded ∷ []) (may_be_in_doubt h.header n u x)) (object_used k.event)))
 
--- naming was at the action's node, or told it something since it asked
-abbrev pub naming_told : Here → Act → Asked → Bool
-naming_told h a k = (a.uid.node == 1) || was_sent h k.at 1 a.uid.node (frame.Bound ∷ frame.Recorded ∷ [])
-
--- Naming told of it, at its node: it was in the new incarnation since the call, and the other one is before that; or it made both bindings,
--- the older one first.
-abbrev pub may_differ : Here → Act → Asked → ℕ → ℕ → Difference → Bool
-may_differ h a k n x (difference.Inc had now) =
-    (n == 1) && (naming_told h a k && (nat_lt had now && from_place h k.at (λ before. incarnation h.start before 1 == now)))
-may_differ h a k n x (difference.Bind had now) =
-    (n == 1) && (naming_told h a k && (is_older had now && (was_bound h.lines x had && was_bound h.lines x now)))
-
--- a call was asked that may have met the difference so
-abbrev pub may_have_changed : Here → List ℕ → ℕ → Difference → Bool
-may_have_changed h l n d =
-    asks_so h l (λ a k. is_call k.event && (was_told h n a k && holds_in (λ x. may_differ h a k n x d) (object_used k.event)))
-
--- A line that answers a call or an include as done has its cause; so has one that says what was lost, one that says a conflict, unless
--- a store said it, and one that says what changed at a node, unless naming told of it at its own.
+-- A line that answers a call or an include as done has its cause; so has one that says what was lost, one that says what changed at a node,
+-- and one that says a conflict, unless a store said it.
 abbrev pub answer_fits : Here → Body → Bool
 answer_fits h (body.Ok l x op answer) = has_cause h (body.Ok l x op answer)
 answer_fits h (body.Conflict l u held n) = has_cause h (body.Conflict l u held n) || came_from_store h (name l) u held n
 answer_fits h (body.Lost l n) = has_cause h (body.Lost l n)
 answer_fits h (body.Includes l x n) = has_cause h (body.Includes l x n)
-answer_fits h (body.Changed l n d) = has_cause h (body.Changed l n d) || may_have_changed h (name l) n d
+answer_fits h (body.Changed l n d) = has_cause h (body.Changed l n d)
 answer_fits h _ = true
 
 -- so it is of each line that an event wrote

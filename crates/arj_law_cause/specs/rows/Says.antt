@@ -61,9 +61,9 @@ may_be_in_doubt header n u x lines = has_changed lines u x && (may_store header 
 
 -- A conflict: at a server the call, and at naming its top, meets the row of this holder in this mode, an action that began, at naming no
 -- nested one. Where a server answers with what the operation gives, the action has its lock; naming names a binding to no include; and
--- where it lets one go on, its top has the entry's write lock. Where a store is in doubt, a state of whom it names may be prepared there;
--- and if the header is in form, the node may be a store of the object, and if the journal is so too, that one changed it. Where a store
--- refuses a Prepare for such a state, it is of another action, and then both have changed the object.
+-- where it lets one go on, or makes a binding, the top has the entry's write lock. Where a store is in doubt, a state of whom it names may
+-- be prepared there; and if the header is in form, the node may be a store of the object, and if the journal is so too, that one changed it.
+-- Where a store refuses a Prepare for such a state, it is of another action, and then both have changed the object.
 abbrev pub says_of : Header → ℕ → Head → Ask → Reply → List Line → Type 0
 says_of hd n h (ask.Invoke x b i ends o) (Reply.Invoked (invoked.Conflict u m)) before =
     (meets n (uids_of h.path) (object x) (op_mode o) u m before ≡ true) × (has_act (acts before) u ≡ true)
@@ -73,7 +73,8 @@ says_of hd n h (ask.Bind x include avoid) (Reply.Bound (bound.Conflict u m)) bef
     (n ≡ 1) × (list_any (λ asked. meets 1 (top_path h.path) (entry x) asked u m before) (entry_modes include) ≡ true)
     × (has_upper (acts before) u ≡ true)
 says_of hd n h (ask.Bind x include avoid) (Reply.Bound (bound.Live b server i g stores)) before = include ≡ false
-says_of hd n h (ask.Bind x include avoid) (Reply.Bound (bound.Make b server g stores)) before = include ≡ false
+says_of hd n h (ask.Bind x include avoid) (Reply.Bound (bound.Make b server g stores)) before =
+    (include ≡ false) × (has_lock 1 (top_of h.path) (entry x) mode.Write before ≡ true)
 says_of hd n h (ask.Bind x include avoid) (Reply.Bound (bound.Write g stores)) before =
     has_lock 1 (top_of h.path) (entry x) mode.Write before ≡ true
 says_of hd n h (ask.Load x) (Reply.Loaded (loaded.InDoubt u)) before =
