@@ -187,10 +187,13 @@ abort_more : SendsStep two_nodes (end_from nothing_yet (begins ∷ [])) (event.A
     (body.Aborted (l 65) cause.Asked ∷ sent_from 0 2) → ⊥
 abort_more s = let no_way : 2 ≤ 1 = s in absurd (omega (arith, no_way))
 
--- Of a hello nothing is said.
-hello_free : SendsStep two_nodes (end_from nothing_yet ((event.Crash 1, body.Halted 1 ∷ [])
-    ∷ (event.Restart 1, body.Up 1 2 ∷ body.Sent 1 1 2 frame.Hello ∷ []) ∷ [])) (event.Deliver (Number 1)) (body.Got 1 ∷ sent_from 1 9)
-hello_free = tt
+-- a hello none where no action began
+abbrev greeted : Past
+greeted = end_from nothing_yet ((event.Crash 1, body.Halted 1 ∷ [])
+    ∷ (event.Restart 1, body.Up 1 2 ∷ body.Sent 1 1 2 frame.Hello ∷ []) ∷ [])
+
+hello_more : SendsStep two_nodes greeted (event.Deliver (Number 1)) (body.Got 1 ∷ sent_from 1 1) → ⊥
+hello_more s = let no_way : 2 ≤ 1 = s in absurd (omega (arith, no_way))
 
 -- ---- the limit of frames
 

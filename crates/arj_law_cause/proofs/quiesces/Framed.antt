@@ -12,7 +12,7 @@ use Words.{World, armed, as_delivered, as_lost, begins, change_frame, count_work
 use Words.{done_step, frame_number, giving, halted_at, halted_outs, happens, junk, junk_fits, labels_unless, lacks_labels, limited, lose}
 use Words.{lose_frame}
 use Words.{most_frames, new_frame, no_labels, node_numbers, node_of, put, reasons, run_unless, sends, show_all, show_up, is_up_at}
-use Words.{step_node}
+use Words.{step_node, holders}
 use Words.{step_with, steps, Move, moved, world_by, frame_kind, Branch}
 use Words.body
 use Words.event
@@ -46,8 +46,9 @@ use Rattle.arj_law_runs.proofs.addresses.Runs.{kept, within_of}
 use Rattle.arj_law_runs.specs.addresses.Addresses.{AreAddressed, GoWithin, IsNode}
 use Rattle.arj_law_cause.proofs.follow.lines.{Aborts.abort_many, Adding.count_so, Numbers.AreInTurn}
 use Rattle.arj_law_cause.proofs.follow.lines.Events as lines
+use Rattle.arj_law_cause.proofs.sending.Begun.{holders_few}
 use Rattle.arj_law_cause.proofs.sending.Counted.{each, each_is}
-use Rattle.arj_law_cause.proofs.sending.Events.{abort_adds, acked_adds, commit_adds, giveup_adds, other_adds, prepared_adds}
+use Rattle.arj_law_cause.proofs.sending.Events.{abort_adds, acked_adds, commit_adds, giveup_adds, hello_adds, other_adds, prepared_adds}
 use Rattle.arj_law_cause.proofs.sending.Ordered.{AllUp, UpNode, ordered_keep}
 use Rattle.arj_law_cause.specs.rounds.Sends.{RunsSendFew, SendsStep, carries, is_acked, is_answered, is_answered_frame, is_call_frame}
 use Rattle.arj_law_cause.specs.rounds.Sends.{is_hello, is_of_call, is_prepared, most_delivered, most_sent, others}
@@ -426,7 +427,8 @@ module _ (hd : Header) (ls : List Words.Line) (w : World) (last : last_frame ls 
     (ups : (n : ℕ) (x : Node) → at_place n w.nodes ≡ Some x → UpNode x)
     (ends : (l : Label) (x : Node) (t : Parts) (b : Branch) → at_place (node_of l w) w.nodes ≡ Some x → x.live ≡ Some t →
     branch_named l t.coord ≡ Some b → is_some b.ended ≡ false →
-    length (open_below (actor b.path) t.coord.tree ++ actor b.path ∷ []) ≤ length (aborted_of ls (act_in (terms.acts ls) (name l)))) where
+    length (open_below (actor b.path) t.coord.tree ++ actor b.path ∷ []) ≤ length (aborted_of ls (act_in (terms.acts ls) (name l))))
+    (asks : (n : ℕ) (x : Node) (t : Parts) → at_place n w.nodes ≡ Some x → x.live ≡ Some t → length (holders x.disk t) ≤ length (terms.acts ls)) where
   abbrev Bound : Event → Type 0
   Bound e = (a : Arm) → GoWithin hd.nodes (happens e a w) → IfSome (most_sent hd ls e) (λ k. Adds k w (happens e a w))
 
@@ -448,8 +450,10 @@ module _ (hd : Header) (ls : List Words.Line) (w : World) (last : last_frame ls 
   abbrev Delivers : FrameNo → Option ℕ → Type 0
   Delivers k most = GoWithin hd.nodes (deliver (frame_number k w) w) → IfSome most (λ j. Adds j w (deliver (frame_number k w) w))
 
-  other_so : (k : FrameNo) (b : Bool) → carries is_hello ls (model.frame_no ls k) ≡ b → Delivers k (cond b None (Some (3 * others hd)))
-  other_so k true is within = tt
+  other_so : (k : FrameNo) (b : Bool) → carries is_hello ls (model.frame_no ls k) ≡ b → Delivers k (cond b (Some (length (terms.acts ls) * others hd))
+      (Some (3 * others hd)))
+  other_so k true is within = times (length (terms.acts ls)) (deliver (frame_number k w) w)
+      (hello_adds hd w nodes numbers ups (frame_number k w) (length (terms.acts ls)) (test_is is_hello true k is) asks within)
   other_so k false is within = times 3 (deliver (frame_number k w) w)
       (other_adds hd w nodes numbers ups (frame_number k w) (test_is is_hello false k is) within)
 
@@ -479,7 +483,7 @@ module _ (hd : Header) (ls : List Words.Line) (w : World) (last : last_frame ls 
   delivered : (k : FrameNo) → Delivers k (most_delivered hd ls (model.frame_no ls k))
   delivered k =
       let i = model.frame_no ls k in
-      let late = cond (carries is_hello ls i) None (Some (3 * others hd)) in
+      let late = cond (carries is_hello ls i) (Some (length (terms.acts ls) * others hd)) (Some (3 * others hd)) in
       let more = cond (carries is_prepared ls i) (Some (2 * others hd)) late in
       called_so k (is_call_frame ls i) (is_answered_frame ls i) refl refl (cond (carries is_acked ls i) (Some (others hd)) more)
       (acked_so k (carries is_acked ls i) refl more (prepared_so k (carries is_prepared ls i) refl late
@@ -529,7 +533,9 @@ module _ (hd : Header) (ls : List Words.Line) (w : World) (last : last_frame ls 
     (ends : (l : Label) (x : Node) (t : Parts) (b : Branch) → at_place (node_of l w) w.nodes ≡ Some x → x.live ≡ Some t →
     branch_named l t.coord ≡ Some b → is_some b.ended ≡ false →
     length (open_below (actor b.path) t.coord.tree ++ actor b.path ∷ [])
-    ≤ length (aborted_of ls (act_in (terms.acts ls) (name l)))) (m : Move) where
+    ≤ length (aborted_of ls (act_in (terms.acts ls) (name l))))
+    (asks : (n : ℕ) (x : Node) (t : Parts) → at_place n w.nodes ≡ Some x → x.live ≡ Some t → length (holders x.disk t) ≤ length (terms.acts ls))
+    (m : Move) where
   abbrev In : World → Type 0
   In v = GoWithin hd.nodes v → IfSome (most_sent hd ls (event_of m)) (λ k. Adds k w v)
 
@@ -545,9 +551,9 @@ module _ (hd : Header) (ls : List Words.Line) (w : World) (last : last_frame ls 
 
   fits : (b : Bool) → let v = happens (event_of m) (let a = m.asked in a.arm) (counted (record w { arms = m.falls })) in
       In (record (cond b (world_says (body.Limit Words.words.which.Frames ∷ []) (record v { over = true })) v) { arms = [] })
-  fits true = bounded hd ls (counted (record w { arms = m.falls })) last frames numbers nodes ups ends (event_of m)
+  fits true = bounded hd ls (counted (record w { arms = m.falls })) last frames numbers nodes ups ends asks (event_of m)
       (let a = m.asked in a.arm)
-  fits false = bounded hd ls (counted (record w { arms = m.falls })) last frames numbers nodes ups ends (event_of m)
+  fits false = bounded hd ls (counted (record w { arms = m.falls })) last frames numbers nodes ups ends asks (event_of m)
       (let a = m.asked in a.arm)
 
   accepted : (lacks : Bool) → In (record (cond lacks (no_labels (record w { arms = m.falls }))
@@ -606,6 +612,11 @@ module _ (hd : Header) (form : HeaderInForm hd) (front : Run hd) (m : Move) (p :
       is_less : (a b : ℕ) → a ≡ b → a ≤ b
       is_less a b is = omega (arith, is)
 
+  asks : (n : ℕ) (x : Node) (t : Parts) → at_place n (let w = world_by hd front in w.nodes) ≡ Some x → x.live ≡ Some t →
+      length (holders x.disk t) ≤ length (terms.acts p.lines)
+  asks n x t there live = subst (λ ls. length (holders x.disk t) ≤ length (terms.acts ls))
+      (sym (ties.same_lines hd form p (world_by hd front) s.all)) (holders_few hd front n x there t live)
+
   within : GoWithin hd.nodes (moved m (world_by hd front))
   within = within_of hd form (moved m (world_by hd front)) (move_asked hd (AreAddressed hd) (kept hd form) m (world_by hd front)
       (moves_asked hd (AreAddressed hd) (kept hd form) front))
@@ -615,7 +626,7 @@ module _ (hd : Header) (form : HeaderInForm hd) (front : Run hd) (m : Move) (p :
       (λ k. last_frame (let q = next p (event_of m) bodies in q.lines) ≤ last_frame p.lines + k)
       (λ k le. subst (λ n. n ≤ last_frame p.lines + k) (sym behind_tells.last)
       (subst (λ n. length (let v = moved m (world_by hd front) in v.frames) ≤ n + k) (sym before_tells.last) le))
-      (moved_few hd p.lines (world_by hd front) before_tells.last before_tells.frames numbers nodes ups ends m within)
+      (moved_few hd p.lines (world_by hd front) before_tells.last before_tells.frames numbers nodes ups ends asks m within)
 
 -- so it is of each event of a run
 pub runs_send_few : RunsSendFew

@@ -9,7 +9,7 @@ use Words.{actor, acts, branch_named, commit_action, give_up, abort_action, on_b
 use Words.{Input, Node}
 use Words.{Step, at_place, coord_did, handled_step, node_did, refusal, step, step_down, step_of, step_unless, step_up, Frame, World}
 use Words.{as_delivered, change_frame, deliver, deliver_frame, frame_kind, node_of, steps, Look, PutInc, Prepare, Commit, Abort, PutIntent}
-use Words.{RemoveIntent, is_some, ◌||◌, refused_by}
+use Words.{holders, RemoveIntent, is_some, ◌||◌, refused_by}
 use Words.body
 use Words.input
 use Words.message
@@ -23,6 +23,7 @@ use Rattle.arj_law_runs.specs.addresses.Addresses.{GoWithin, IsNode}
 use Rattle.arj_law_cause.proofs.sending.Counted.{FewTo, each, step_adds}
 use Rattle.arj_law_cause.proofs.sending.Ordered.{AllPut, UpCoord, UpNode, acts_up, message_up}
 use Rattle.arj_law_cause.proofs.sending.Handlers.{abort_mass, commit_mass, giveup_mass, taken_mass}
+use Rattle.arj_law_cause.proofs.sending.Hellos.{hello_mass}
 use Rattle.arj_law_cause.proofs.sending.Weights.{mass, own}
 use Rattle.arj_law_cause.proofs.sending.Wholes.{sent_to, whole_to}
 use Rattle.arj_law_cause.specs.rounds.Sends.{is_acked, is_hello, is_prepared}
@@ -98,21 +99,14 @@ module _ (k c : ℕ) (n : Node) (number : n.number ≡ k) (up : UpNode n) where
   void_to j f (Say b ∷ es) looks = absurd (cc looks)
   void_to j f (Send to m ∷ es) looks = absurd (cc looks)
 
-  frame_few : (j f from : ℕ) (m : Message) (t : Parts) → n.live ≡ Some t → own k j (c + 1) m ≤ c →
-      FewTo j (cond (j == k) 0 c) (step_up (input.Frame f from (Some m)) n t)
-  frame_few j f from m t live few = by (taken n.number n.disk t from m) refl
-      (taken_mass k j (c + 1) from n.number n.disk t (up.1 t live) up.0 m (below (own k j (c + 1) m) few))
+  frame_masses : (j f from : ℕ) (m : Message) (t : Parts) → n.live ≡ Some t →
+      mass k j (c + 1) (outs_of (taken n.number n.disk t from m)) ≤ c → FewTo j (cond (j == k) 0 c) (step_up (input.Frame f from (Some m)) n t)
+  frame_masses j f from m t live few = by (taken n.number n.disk t from m) refl few
     where
-      below : (a : ℕ) → a ≤ c → a < c + 1
-      below a le = omega (arith, le)
-
       low : (a b : ℕ) → a ≡ 0 → a ≤ b
       low a b is = omega (arith, is)
 
-      less : (a b : ℕ) → a ≤ b → b ≤ c → a ≤ c
-      less a b x y = omega (arith, x, y)
-
-      by : (r : Handled) → taken n.number n.disk t from m ≡ r → mass k j (c + 1) (outs_of r) ≤ own k j (c + 1) m →
+      by : (r : Handled) → taken n.number n.disk t from m ≡ r → mass k j (c + 1) (outs_of r) ≤ c →
           FewTo j (cond (j == k) 0 c) (handled_step f n r)
       by (Void outs) is le =
           let looks = subst LooksAlone is (taken_looks n.number n.disk t from m) in (
@@ -121,7 +115,18 @@ module _ (k c : ℕ) (n : Node) (number : n.number ≡ k) (up : UpNode n) where
           )
       by (Took v outs) is le =
           let so = message_up n.number n.disk t v from m outs (taken_took n.number n.disk t v from m outs is) (up.1 t live) in
-          let all = whole_few j v outs so.0 so.1 (less (mass k j (c + 1) outs) (own k j (c + 1) m) le few) in (all, all)
+          let all = whole_few j v outs so.0 so.1 le in (all, all)
+
+  frame_few : (j f from : ℕ) (m : Message) (t : Parts) → n.live ≡ Some t → own k j (c + 1) m ≤ c →
+      mass k j (c + 1) (outs_of (taken n.number n.disk t from m)) ≤ c
+  frame_few j f from m t live few = less (mass k j (c + 1) (outs_of (taken n.number n.disk t from m))) (own k j (c + 1) m)
+      (taken_mass k j (c + 1) from n.number n.disk t (up.1 t live) up.0 m (below (own k j (c + 1) m) few)) few
+    where
+      below : (a : ℕ) → a ≤ c → a < c + 1
+      below a le = omega (arith, le)
+
+      less : (a b : ℕ) → a ≤ b → b ≤ c → a ≤ c
+      less a b x y = omega (arith, x, y)
 
 -- ---- events
 
@@ -185,10 +190,10 @@ module _ (hd : Header) (w : World) (nodes : (n : ℕ) (x : Node) → at_place n 
   -- ---- deliveries
 
   -- of a message that leads to so many
-  deliver_adds : (c f : ℕ) → ((x : Frame) (m : Message) → at_place f w.frames ≡ Some x → x.message ≡ Some m → (k j i : ℕ) →
-      own k j i m ≤ c) →
-      AddsEach c (deliver f w)
-  deliver_adds c f weighs = by (at_place f w.frames) refl
+  deliver_masses : (c f : ℕ) → ((x : Frame) (m : Message) → at_place f w.frames ≡ Some x → x.message ≡ Some m → (j : ℕ) (n : Node) →
+      at_place x.to w.nodes ≡ Some n → (t : Parts) → n.live ≡ Some t →
+      mass x.to j (c + 1) (outs_of (taken n.number n.disk t x.from m)) ≤ c) → AddsEach c (deliver f w)
+  deliver_masses c f weighs = by (at_place f w.frames) refl
     where
       stays : (a b : ℕ) → a ≤ a + b
       stays a b = omega arith
@@ -207,12 +212,18 @@ module _ (hd : Header) (w : World) (nodes : (n : ℕ) (x : Node) → at_place n 
           few : (j : ℕ) (n : Node) → at_place x.to w.nodes ≡ Some n → (t : Parts) → n.live ≡ Some t → (o : Option Message) → x.message ≡ o →
               FewTo j (cond (j == x.to) 0 c) (step_up (input.Frame f x.from o) n t)
           few j n at t live None is = (least _, least _)
-          few j n at t live (Some m) is =
-              frame_few x.to c n (numbers x.to n at) (ups x.to n at) j f x.from m t live (weighs x m there is x.to j (c + 1))
+          few j n at t live (Some m) is = frame_masses x.to c n (numbers x.to n at) (ups x.to n at) j f x.from m t live
+              (weighs x m there is j n at t live)
 
       by : (o : Option Frame) → at_place f w.frames ≡ o → AddsEach c (deliver_frame f w o)
       by None none = λ within. stays (length w.frames) (each c (hd.nodes - 1))
       by (Some x) there = carried x there x.message refl
+
+  deliver_adds : (c f : ℕ) → ((x : Frame) (m : Message) → at_place f w.frames ≡ Some x → x.message ≡ Some m → (k j i : ℕ) →
+      own k j i m ≤ c) →
+      AddsEach c (deliver f w)
+  deliver_adds c f weighs = deliver_masses c f (λ x m there is j n at t live. frame_few x.to c n (numbers x.to n at) (ups x.to n at) j f
+      x.from m t live (weighs x m there is x.to j (c + 1)))
 
   -- of a frame of which this holds
   kind_so : (f : ℕ) (test : FrameKind → Bool) (b : Bool) → frame_test (λ from to what. test what) (at_place f w.frames) ≡ b → (x : Frame)
@@ -249,3 +260,19 @@ module _ (hd : Header) (w : World) (nodes : (n : ℕ) (x : Node) → at_place n 
       weighs (message.Hello x) is k j i = absurd (cc is)
       weighs (message.Told x) is k j i = flag x.ack
       weighs m is k j i = omega arith
+
+  -- a hello: as many as the node has something of
+  pub hello_adds : (f c : ℕ) → frame_test (λ from to what. is_hello what) (at_place f w.frames) ≡ true → ((k : ℕ) (n : Node) (t : Parts) →
+      at_place k w.nodes ≡ Some n → n.live ≡ Some t → length (holders n.disk t) ≤ c) → AddsEach c (deliver f w)
+  hello_adds f c is asks = deliver_masses c f (λ x m there carries j n at t live. weighs x j n t m
+      (kind_so f is_hello true is x m there carries) (asks x.to n t at live))
+    where
+      less : (a b : ℕ) → a ≤ b → b ≤ c → a ≤ c
+      less a b x y = omega (arith, x, y)
+
+      weighs : (x : Frame) (j : ℕ) (n : Node) (t : Parts) (m : Message) → is_hello (frame_kind m) ≡ true → length (holders n.disk t) ≤ c →
+          mass x.to j (c + 1) (outs_of (taken n.number n.disk t x.from m)) ≤ c
+      weighs x j n t (message.Hello h) is le =
+          less (mass x.to j (c + 1) (outs_of (taken n.number n.disk t x.from (message.Hello h)))) (length (holders n.disk t))
+          (hello_mass x.to j (c + 1) x.from n.number n.disk t h.node h.inc) le
+      weighs x j n t m is le = absurd (cc is)

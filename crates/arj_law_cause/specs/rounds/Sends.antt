@@ -1,4 +1,4 @@
--- How many frames an event sends at most: a call, an include, a commit, a giveup, an abort, and a delivery of any frame but a hello.
+-- How many frames an event sends at most: a call, an include, a commit, a giveup, an abort, and a delivery.
 use Rattle.std.specs.Prelude.{◌≤◌, ◌+◌, ◌-◌, ◌*◌, ◌==◌, ◌&&◌, ◌||◌, length, not, ℕ, List, Bool, true, false, if◌then◌else◌, IfSome}
 use Rattle.std.specs.Prelude.{Option, Some, None}
 use Rattle.arj_journal.specs.declared.body.Body.{Body}
@@ -75,14 +75,14 @@ others hd = hd.nodes - 1
 
 -- So many at most by whom the frame of this number is delivered: one where it is a request or an answer of a call or an include, or to
 -- another node a request of a commit, an end or a question; of an acknowledgement one to each other node, as the end of a serializing
--- action may be told; of an answer to a Prepare or a Confirm two, as before that the commit may be decided; of a hello nothing is said;
--- and of any other three, as behind an answer to a Vote the commit may ask each first.
+-- action may be told; of an answer to a Prepare or a Confirm two, as before that the commit may be decided; of a hello
+-- one for each action that began; and of any other three, as behind an answer to a Vote the commit may ask each first.
 abbrev pub most_delivered : Header → List Line → ℕ → Option ℕ
 most_delivered hd lines k =
     if is_call_frame lines k || is_answered_frame lines k then Some 1
     else (if carries is_acked lines k then Some (others hd)
     else (if carries is_prepared lines k then Some (2 * others hd)
-    else (if carries is_hello lines k then None else Some (3 * others hd))))
+    else (if carries is_hello lines k then Some (length (acts lines) * others hd) else Some (3 * others hd))))
 
 -- How many frames the event sends at most, where these lines stand before it: one where it calls or includes, or hands over bytes; what a
 -- delivery may; to each other node four where an action commits, two where it is given up, and one for each open action that an abort ends;
