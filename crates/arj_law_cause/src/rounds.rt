@@ -39,8 +39,8 @@ pub fn asked_alone_is_answered()
 /// it: one by which an action calls or includes, or which hands over bytes; to each other node four by which an action commits, two by
 /// which it is given up, and one for each open action that an abort ends. A delivery sends one frame where it is of a call, an include, or
 /// to another node a request of a commit, an end or a question; to each other node one of an acknowledgement, two of an answer to a Prepare
-/// or a Confirm, one for each action that began of a hello, and three of any other. None is sent by which an action begins, a frame is lost,
-/// a node crashes, a stop is armed, or an object is shown. It does nothing when it runs.
+/// or a Confirm, one for each action that began of a hello, and three of any other. None is sent by which an action begins, a frame is
+/// lost, a node crashes, a stop is armed, or an object is shown. It does nothing when it runs.
 pub fn events_send_few_frames()
     ensures runs { RunsSendFew }
 {}

@@ -428,7 +428,8 @@ module _ (hd : Header) (ls : List Words.Line) (w : World) (last : last_frame ls 
     (ends : (l : Label) (x : Node) (t : Parts) (b : Branch) → at_place (node_of l w) w.nodes ≡ Some x → x.live ≡ Some t →
     branch_named l t.coord ≡ Some b → is_some b.ended ≡ false →
     length (open_below (actor b.path) t.coord.tree ++ actor b.path ∷ []) ≤ length (aborted_of ls (act_in (terms.acts ls) (name l))))
-    (asks : (n : ℕ) (x : Node) (t : Parts) → at_place n w.nodes ≡ Some x → x.live ≡ Some t → length (holders x.disk t) ≤ length (terms.acts ls)) where
+    (asks : (n : ℕ) (x : Node) (t : Parts) → at_place n w.nodes ≡ Some x → x.live ≡ Some t →
+    length (holders x.disk t) ≤ length (terms.acts ls)) where
   abbrev Bound : Event → Type 0
   Bound e = (a : Arm) → GoWithin hd.nodes (happens e a w) → IfSome (most_sent hd ls e) (λ k. Adds k w (happens e a w))
 
@@ -450,8 +451,8 @@ module _ (hd : Header) (ls : List Words.Line) (w : World) (last : last_frame ls 
   abbrev Delivers : FrameNo → Option ℕ → Type 0
   Delivers k most = GoWithin hd.nodes (deliver (frame_number k w) w) → IfSome most (λ j. Adds j w (deliver (frame_number k w) w))
 
-  other_so : (k : FrameNo) (b : Bool) → carries is_hello ls (model.frame_no ls k) ≡ b → Delivers k (cond b (Some (length (terms.acts ls) * others hd))
-      (Some (3 * others hd)))
+  other_so : (k : FrameNo) (b : Bool) → carries is_hello ls (model.frame_no ls k) ≡ b →
+      Delivers k (cond b (Some (length (terms.acts ls) * others hd)) (Some (3 * others hd)))
   other_so k true is within = times (length (terms.acts ls)) (deliver (frame_number k w) w)
       (hello_adds hd w nodes numbers ups (frame_number k w) (length (terms.acts ls)) (test_is is_hello true k is) asks within)
   other_so k false is within = times 3 (deliver (frame_number k w) w)
@@ -534,7 +535,8 @@ module _ (hd : Header) (ls : List Words.Line) (w : World) (last : last_frame ls 
     branch_named l t.coord ≡ Some b → is_some b.ended ≡ false →
     length (open_below (actor b.path) t.coord.tree ++ actor b.path ∷ [])
     ≤ length (aborted_of ls (act_in (terms.acts ls) (name l))))
-    (asks : (n : ℕ) (x : Node) (t : Parts) → at_place n w.nodes ≡ Some x → x.live ≡ Some t → length (holders x.disk t) ≤ length (terms.acts ls))
+    (asks : (n : ℕ) (x : Node) (t : Parts) → at_place n w.nodes ≡ Some x → x.live ≡ Some t →
+    length (holders x.disk t) ≤ length (terms.acts ls))
     (m : Move) where
   abbrev In : World → Type 0
   In v = GoWithin hd.nodes v → IfSome (most_sent hd ls (event_of m)) (λ k. Adds k w v)

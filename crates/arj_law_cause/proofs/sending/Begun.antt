@@ -1,8 +1,10 @@
 -- Of how many actions a node has something: of no more than began, by the journal.
 use Rattle.arj_law_parts.proofs.Words
-use Words.{◌≡◌, ◌∙◌, ◌≤◌, ◌+◌, ◌==◌, not, ℕ, suc, Bool, true, false, cond, List, [], ◌∷◌, ◌++◌, filter, length, map, refl, sym, ap, subst, arith}
-use Words.{inl, inr, ⊎_elim, AllByRecursion, Contains, Option, Some, None, In, in_from, in_to, Ordering, Less, Equal, Greater, match_ordering}
-use Words.{uid_cases, uid_eq, uid_is, uid_order, uid_same, Uid, put_uid, uid_set, with_uid, Disk, Parts, Node, Header, Intent, World, Coord, at_place, holders}
+use Words.{◌≡◌, ◌∙◌, ◌≤◌, ◌+◌, ◌==◌, not, ℕ, suc, Bool, true, false, cond, List, [], ◌∷◌, ◌++◌, filter, length, map, refl, sym, ap, subst}
+use Words.{arith}
+use Words.{inl, inr, ⊎_elim, AllByRecursion, Contains, Option, Some, None, In, in_from, in_to, Ordering, Less, Equal, Greater}
+use Words.{match_ordering}
+use Words.{uid_eq, uid_is, uid_order, uid_same, Uid, put_uid, uid_set, with_uid, Parts, Node, Header, at_place, holders}
 use Words.{prepared_actions, server_holders, locks_of, world_by, see}
 use Rattle.arj_law_parts.proofs.parts.Keys.{order_itself, sorted_put}
 use Rattle.std.proofs.lemmas.List.{length-map}

@@ -100,7 +100,8 @@ module _ (k c : ℕ) (n : Node) (number : n.number ≡ k) (up : UpNode n) where
   void_to j f (Send to m ∷ es) looks = absurd (cc looks)
 
   frame_masses : (j f from : ℕ) (m : Message) (t : Parts) → n.live ≡ Some t →
-      mass k j (c + 1) (outs_of (taken n.number n.disk t from m)) ≤ c → FewTo j (cond (j == k) 0 c) (step_up (input.Frame f from (Some m)) n t)
+      mass k j (c + 1) (outs_of (taken n.number n.disk t from m)) ≤ c →
+      FewTo j (cond (j == k) 0 c) (step_up (input.Frame f from (Some m)) n t)
   frame_masses j f from m t live few = by (taken n.number n.disk t from m) refl few
     where
       low : (a b : ℕ) → a ≡ 0 → a ≤ b

@@ -153,7 +153,8 @@ module _ (hd : Header) where
         where
           by : (b c d h : Bool) → carries is_hello p.lines k ≡ h →
               IfSome (cond b (Some 1) (cond c (Some (others hd)) (cond d (Some (2 * others hd))
-              (cond h (Some (length (acts p.lines) * others hd)) (Some (3 * others hd)))))) (λ m. last_frame q.lines ≤ last_frame p.lines + m) → Adds
+              (cond h (Some (length (acts p.lines) * others hd)) (Some (3 * others hd))))))
+              (λ m. last_frame q.lines ≤ last_frame p.lines + m) → Adds
           by true c d h is sends = within 1 (omega arith) sends
           by false true d h is sends = within (others hd) (low (others hd) few_others) sends
             where
