@@ -13,6 +13,7 @@ use Rattle.arj_journal.specs.declared.body.Part.TheVariants as part
 use Rattle.arj_journal.specs.declared.body.Role.TheVariants as role
 use Rattle.arj_journal.specs.declared.event.Event.TheVariants as event
 use Rattle.arj_journal.specs.declared.event.FrameNo.TheVariants.{Number, Last}
+use Rattle.arj_journal.specs.declared.event.StopKind.TheVariants as stop
 use Rattle.arj_cause_tests.proofs.Words.{l, u, b, object_line, nodes, run, Run, lacking}
 
 -- a server has a newer copy
@@ -140,6 +141,43 @@ conflict_pending = run
 
 conflict_pending_has_causes : lacking conflict_pending ≡ []
 conflict_pending_has_causes = refl
+
+-- a load meets a state that a stop left without its line
+abbrev pub conflict_unsaid : Run
+conflict_unsaid = run
+    (nodes 4 (object_line 1 (value.Counter 0) (2 ∷ []) (3 ∷ []) ∷ []))
+    ((event.Begin (l 65) 2, body.Began (l 65) kind.Top (u 2 1 1) None ∷ [])
+    ∷ (event.Call (l 65) 1 (op.Add 1), body.Sent 1 2 1 frame.Bind ∷ [])
+    ∷ (
+      event.Settle,
+      body.Got 1 ∷ body.Granted 1 (u 2 1 1) (u 0 1 1) Write ∷ body.Bound 1 (b 1 1) 2 ∷ body.Sent 2 1 2 frame.Bound
+          ∷ body.Got 2 ∷ body.Sent 3 2 3 frame.Load ∷ body.Got 3 ∷ body.Sent 4 3 2 frame.Loaded ∷ body.Got 4 ∷ body.Active 2 1 (b 1 1)
+          ∷ body.Sent 5 2 1 frame.Record ∷ body.Got 5 ∷ body.Lowered 1 (u 2 1 1) (u 0 1 1) ∷ body.Sent 6 1 2 frame.Recorded ∷ body.Got 6
+          ∷ body.Granted 2 (u 2 1 1) (u 0 0 1) Write ∷ body.Ok (l 65) 1 (op.Add 1) (codes "done") ∷ [],
+    )
+    ∷ (event.Commit (l 65), body.Committing (l 65) ∷ body.Sent 7 2 3 frame.Prepare ∷ [])
+    ∷ (event.Stop 3 3 stop.Done, body.Armed 3 ∷ [])
+    ∷ (event.Deliver Last, body.Got 7 ∷ body.Halted 3 ∷ [])
+    ∷ (
+      event.Restart 3,
+      body.Up 3 2 ∷ body.Sent 8 3 2 frame.Query ∷ body.Sent 9 3 1 frame.Hello ∷ body.Sent 10 3 2 frame.Hello
+          ∷ body.Sent 11 3 4 frame.Hello ∷ [],
+    )
+    ∷ (event.Crash 1, body.Halted 1 ∷ [])
+    ∷ (event.Restart 1, body.Up 1 2 ∷ body.Sent 12 1 2 frame.Hello ∷ body.Sent 13 1 3 frame.Hello ∷ body.Sent 14 1 4 frame.Hello ∷ [])
+    ∷ (event.Begin (l 66) 4, body.Began (l 66) kind.Top (u 4 1 1) None ∷ [])
+    ∷ (event.Call (l 66) 1 op.Get, body.Sent 15 4 1 frame.Bind ∷ [])
+    ∷ (
+      event.Settle,
+      body.Got 8 ∷ body.Got 9 ∷ body.Got 10 ∷ body.Got 11 ∷ body.Got 12 ∷ body.Got 13 ∷ body.Got 14 ∷ body.Got 15
+          ∷ body.Granted 1 (u 4 1 1) (u 0 1 1) Write ∷ body.Bound 1 (b 2 1) 2 ∷ body.Sent 16 1 4 frame.Bound ∷ body.Got 16
+          ∷ body.Sent 17 4 3 frame.Load ∷ body.Got 17 ∷ body.Sent 18 3 4 frame.Loaded ∷ body.Got 18
+          ∷ body.Conflict (l 66) (u 2 1 1) Write 3 ∷ [],
+    )
+    ∷ [])
+
+conflict_unsaid_has_causes : lacking conflict_unsaid ≡ []
+conflict_unsaid_has_causes = refl
 
 -- a store is excluded that has another top in doubt
 abbrev pub excluded_pending : Run

@@ -30,7 +30,7 @@ use Rattle.arj_cause_tests.proofs.Worked.{conflict, exclusion, inclusion, lost_l
 use Rattle.arj_cause_tests.proofs.Worked.{rebinding}
 use Rattle.arj_cause_tests.proofs.Worked.{stop_at_decision_done}
 use Rattle.arj_cause_tests.proofs.Rare.{aborted_conflict, aborted_lost, aborted_old, changed_bind_naming}
-use Rattle.arj_cause_tests.proofs.Rarer.{changed_bind_server, changed_inc_naming, changed_inc_server, conflict_pending}
+use Rattle.arj_cause_tests.proofs.Rarer.{changed_bind_server, changed_inc_naming, changed_inc_server, conflict_pending, conflict_unsaid}
 use Rattle.arj_cause_tests.proofs.WrongEvents.{begins, two_nodes}
 use Rattle.arj_cause_tests.proofs.WrongShows.{failing_from}
 
@@ -121,9 +121,19 @@ stores_holder = refl
 stores_changed : failing answer_fits (instead 19 (body.Ok (l 65) 1 op.Get (codes "0")) conflict_pending) ≡ 19 ∷ 47 ∷ []
 stores_changed = refl
 
--- the store stopped, and was sent nothing to prepare
-stores_stopped : failing answer_fits (instead 31 (body.Halted 3) (instead 21 (body.Sent 7 2 3 frame.Vote) conflict_pending)) ≡ 47 ∷ []
+-- a store stopped before the line of what it prepared
+stores_unsaid : failing answer_fits conflict_unsaid ≡ []
+stores_unsaid = refl
+
+-- it was sent nothing to prepare, took another frame as it stopped, or crashed
+stores_stopped : failing answer_fits (instead 21 (body.Sent 7 2 3 frame.Vote) conflict_unsaid) ≡ 53 ∷ []
 stores_stopped = refl
+
+stores_taking : failing answer_fits (instead 23 (body.Got 6) conflict_unsaid) ≡ 53 ∷ []
+stores_taking = refl
+
+stores_crashed : failing answer_fits (of_other_event 6 (event.Crash 3) conflict_unsaid) ≡ 53 ∷ []
+stores_crashed = refl
 
 -- nothing of it was prepared there
 stores_pending : failing answer_fits (instead 31 (body.Prepared 3 (u 2 1 1) role.Names) conflict_pending) ≡ 47 ∷ []

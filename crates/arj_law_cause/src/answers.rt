@@ -9,16 +9,14 @@ ghost use Rattle.arj_law_cause.specs.rows.Lines.{AnswersHaveCauses};
 /// the row of this holder in this mode as the first one against what was asked, at naming against its top: of an action that
 /// began, and isn't on the path that asks. An include is of this store for this object, and at some place of its span the
 /// table of naming's node had its top's write lock on the entry. And what is lost was given up in the event, as the line before
-/// says. Of one answer it says less: of a conflict that a store says, over a state in doubt, it says that this node answered a
-/// Load in the span, and may be a store of the object by the journal, of an action that began, isn't on the path that asks, and by
-/// then had changed the object; and that since its commit was called it prepared something there, or the node stopped, which is the
-/// action's own or was sent a Prepare by that one before, whatever it was doing as it stopped, and no end of it is done there since.
-/// And one that
-/// says what changed is of a call that was told so in the span, by the node that is named or by naming, unless the action runs at
-/// either; and there the one copy was active before the other at the node, as it showed in the span, or the node was in the new
-/// incarnation in the span, and in the old one had a copy of the object, or is naming's and a top of the root got a lock on the entry in
-/// it. Where naming told it, it made both bindings, and the root had one of them from another call of the object. It does nothing when it
-/// runs.
+/// says. Where a store says a conflict, over a state in doubt, this node answered a Load in the span, and may be a store of the
+/// object by the journal, of an action that began, isn't on the path that asks, and by then had changed the object; and since its
+/// commit was called it prepared something there, or the node stopped, in no crash, which is the action's own or was taking a
+/// Prepare from there, and no end of it is done there since. One that says what changed is of a call that was told so in the
+/// span, by the node that is named or by naming, unless the action runs at either; and there the one copy was active before the
+/// other at the node, as it showed in the span, or the node was in the new incarnation in the span, and in the old one had a copy
+/// of the object, or is naming's and a top of the root got a lock on the entry in it. Where naming told it, it made both bindings,
+/// and the root had one of them from another call of the object. It does nothing when it runs.
 pub fn answers_have_causes()
     ensures runs { AnswersHaveCauses }
 {}

@@ -49,7 +49,7 @@ use Rattle.arj_law_parts.proofs.Terms.which
 use Rattle.arj_law_parts.specs.moves.Moments.{no_history}
 use Rattle.arj_law_serial.proofs.Terms.{up_of}
 use Rattle.arj_law_cause.proofs.confirm.{Says.Shows}
-use Rattle.arj_law_cause.proofs.rows.Running.{Beside, InEvent, event_step, first_so, moves_stand, steps_both, tables_step}
+use Rattle.arj_law_cause.proofs.rows.Running.{Beside, InEvent, event_step, first_so, moves_stand, none_fits, steps_both, tables_step}
 use Rattle.arj_law_cause.specs.rows.Tables.{Tables}
 
 module _ (hd : Header) (st : Start) where
@@ -127,7 +127,7 @@ module _ (hd : Header) (st : Start) where
 
   -- and answers say what is so, and each line so far fits
   abbrev Inner : List Line → ℕ → Moment → Type 0
-  Inner before event M = (InEvent hd before event M × (Knows before event M × AnswersAreMade (confirms_so hd st) M)) × LinesFit M
+  Inner before event M = (InEvent [] hd before event M × (Knows before event M × AnswersAreMade (confirms_so hd st) M)) × LinesFit M
 
   -- between events
   abbrev Between : Moment → Type 0
@@ -190,7 +190,7 @@ module _ (hd : Header) (st : Start) where
 
     module _ (before : List Line) (event : ℕ) (early : (j : ℕ) → (event == up_of j before) ≡ false) where
       abbrev Known_now : Moment → Type 0
-      Known_now M = InEvent hd before event M × (Knows before event M × AnswersAreMade (confirms_so hd st) M)
+      Known_now M = InEvent [] hd before event M × (Knows before event M × AnswersAreMade (confirms_so hd st) M)
 
       shows_steps : KeepsSteps hd (Knows before event)
       shows_steps = steps_both hd (Shows hd before event) (Wide (BeganSo st))
@@ -198,8 +198,8 @@ module _ (hd : Header) (st : Start) where
           (let k = reached_wide in k.steps)) (let k = began_wide in k.steps)
 
       known_steps : KeepsSteps hd Known_now
-      known_steps = steps_both hd (InEvent hd before event) (λ M. Knows before event M × AnswersAreMade (confirms_so hd st) M)
-          (event_step hd before event early)
+      known_steps = steps_both hd (InEvent [] hd before event) (λ M. Knows before event M × AnswersAreMade (confirms_so hd st) M)
+          (event_step [] hd before event early)
           (answers_step hd (confirms_so hd st) (Knows before event) shows_steps (λ M h. h.0.0.0.0)
           (λ k d t v from m h a r front M g there other meant asking new is.
           tells hd st form before event early k d t v from m h a r front M (g.0, g.1.2) there other meant asking new is))
@@ -235,7 +235,7 @@ module _ (hd : Header) (st : Start) where
             (rest_walk k v outs d M (restart_still (IsQuiet plain) (quiet_plain plain parts_plain) hd k (d.inc + 1) d) h.1);
       }
 
-    its_beside : Beside hd Between Inner
+    its_beside : Beside [] hd Between Inner
     its_beside = let k = reached_wide in let b = began_wide in record {
       inner = λ before event early. inner_steps before event early;
       knows = λ before event M h. h.0.0;
@@ -274,8 +274,8 @@ module _ (hd : Header) (st : Start) where
     pub lines_fit : (r : Run hd) → r.start ≡ st → AreFit [] (journal_by hd r)
     lines_fit r starts =
         let k = reached_wide in
-        let z = moves_stand hd Between Inner its_beside r.moves (no_history r.start) (world_from hd r.start)
-        (first_so hd Between Inner its_beside r.start r.formed (
+        let z = moves_stand [] hd Between Inner its_beside (none_fits hd) r.moves (no_history r.start) (world_from hd r.start)
+        (first_so [] hd Between Inner its_beside r.start r.formed (
           (
             ([], (λ p i. i), k.first r.start r.formed),
             (([], (λ p i. i), starts), first_made hd (confirms_so hd st) r.start r.formed),

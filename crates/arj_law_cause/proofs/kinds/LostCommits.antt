@@ -55,7 +55,7 @@ use Rattle.arj_law_cause.proofs.kinds.Nodes.{all_too, wide_all}
 use Rattle.arj_law_cause.proofs.kinds.Running.{nothing_more, row_run}
 use Rattle.arj_law_cause.proofs.kinds.Walks as walks
 use Rattle.arj_law_cause.proofs.rows.Giving.{brings_give}
-use Rattle.arj_law_cause.proofs.rows.{Holders.one_found, Holders.one_passes, Pending.item_there}
+use Rattle.arj_law_cause.proofs.rows.{Holders.one_found, Holders.one_passes, Pends.item_there}
 use Rattle.arj_law_cause.proofs.waits.commits.Serving.{AreStill, IsQuiet, is_of_part, quiet_plain, restart_still, tick_still}
 use Rattle.arj_law_cause.proofs.waits.commits.Under.{front_stays}
 use Rattle.arj_law_cause.proofs.waits.waiting.Acting as acting

@@ -1,6 +1,6 @@
 -- Inside of each event the first conflicts of tables and of nodes are the same.
 use Rattle.arj_law_parts.proofs.Words
-use Words.{◌≡◌, ◌∙◌, ◌==◌, ◌+◌, ⊤, ℕ, List, length, Some, sym, ap, subst, is_some, find, entry, object}
+use Words.{◌≡◌, ◌∙◌, ◌==◌, ◌+◌, ⊤, ℕ, List, [], length, Some, sym, ap, subst, is_some, find, entry, object}
 use Words.{first_conflict, is_against, server_rows, Line, Mode, Parts, Row, Uid, uid_eq, Header, world_from}
 use Rattle.arj_law_serial.proofs.Terms.{ShowsLocks, memory_of, named_locks, rows_on, up_of}
 use Rattle.arj_law_serial.proofs.holding.Lines.{Since, since_all}
@@ -10,7 +10,8 @@ use Rattle.arj_model.specs.Table.{table}
 use Rattle.arj_promise.specs.Runs.{Run, world_by}
 use Rattle.arj_protocol.specs.Laws.{naming_rows}
 use Rattle.arj_law_cause.proofs.rows.Meeting.{find_some, on_object}
-use Rattle.arj_law_cause.proofs.rows.Running.{InEvent, StandsSo, early, first_so, moves_stand, none_beside, opened_so, tables_step}
+use Rattle.arj_law_cause.proofs.rows.Running.{InEvent, StandsSo, early, first_so, moves_stand, none_beside, none_fits, opened_so}
+use Rattle.arj_law_cause.proofs.rows.Running.{tables_step}
 use Rattle.arj_law_cause.specs.rows.Tables.{EventsAgree, EventsBegin, EventsKeep, TableAgrees}
 
 -- the rows on an object are all that count
@@ -41,15 +42,16 @@ events_agree hd before event M h k n t there live off =
 
 -- ---- in every run
 
-stands : (hd : Header) (r : Run hd) → StandsSo hd (λ M. ⊤) (InEvent hd) (none_beside hd) (past_of hd r) (world_by hd r)
-stands hd r = moves_stand hd (λ M. ⊤) (InEvent hd) (none_beside hd) r.moves (no_history r.start) (world_from hd r.start)
-    (first_so hd (λ M. ⊤) (InEvent hd) (none_beside hd) r.start r.formed tt)
+stands : (hd : Header) (r : Run hd) → StandsSo [] hd (λ M. ⊤) (InEvent [] hd) (none_beside [] hd) (past_of hd r) (world_by hd r)
+stands hd r = moves_stand [] hd (λ M. ⊤) (InEvent [] hd) (none_beside [] hd) (none_fits hd) r.moves (no_history r.start)
+    (world_from hd r.start)
+    (first_so [] hd (λ M. ⊤) (InEvent [] hd) (none_beside [] hd) r.start r.formed tt)
 
 pub events_begin : EventsBegin
 events_begin hd r e over =
-    let o = opened_so hd (λ M. ⊤) (InEvent hd) (none_beside hd) (past_of hd r) (world_by hd r) (stands hd r) e over in
+    let o = opened_so [] hd (λ M. ⊤) (InEvent [] hd) (none_beside [] hd) (past_of hd r) (world_by hd r) (stands hd r) e over in
     record { sent = o.sent; stands = o.stands; number = o.number; wrote = o.wrote; holds = o.holds.0.0 }
 
 pub events_keep : EventsKeep
 events_keep hd r = tables_step hd (let w = world_by hd r in w.lines) (let w = world_by hd r in w.event + 1)
-    (early hd (λ M. ⊤) (InEvent hd) (none_beside hd) (past_of hd r) (world_by hd r) (stands hd r))
+    (early [] hd (λ M. ⊤) (InEvent [] hd) (none_beside [] hd) (past_of hd r) (world_by hd r) (stands hd r))

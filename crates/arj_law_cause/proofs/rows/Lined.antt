@@ -156,7 +156,7 @@ none_full (bound.Conflict u m) full none = none
 
 -- ---- inside of an event
 
-module _ (hd : Header) (st : Start) (before : List Line) (event : ℕ) where
+module _ (A : List AskedOf) (hd : Header) (st : Start) (before : List Line) (event : ℕ) where
   -- where a line comes, with these accepted events
   abbrev pub here_of : List AskedOf → Moment → List Line → Here
   here_of accepted M ls = record {
@@ -173,6 +173,10 @@ module _ (hd : Header) (st : Start) (before : List Line) (event : ℕ) where
   abbrev pub IsAsked : List AskedOf → List AskedOf → Type 0
   IsAsked accepted asked = AreSameAsks accepted asked × AreRising accepted
 
+  -- and those that count
+  abbrev pub Accords : List AskedOf → List Asking → Type 0
+  Accords accepted askings = IsAsked accepted (accepted_of askings) × (A ≡ accepted)
+
   -- behind these lines all are of the event, and each fits, whatever else was accepted
   pub record Lined (M : Moment) : Type 0 where
     pub number : M.past.number ≡ event
@@ -180,7 +184,7 @@ module _ (hd : Header) (st : Start) (before : List Line) (event : ℕ) where
     pub wrote : List Body
     pub lines : M.seen.lines ≡ before ++ numbered event wrote
     pub paths : AskedPaths M
-    pub fit : IsSettled M.seen.lines → (accepted : List AskedOf) → IsAsked accepted (accepted_of M.past.askings) →
+    pub fit : IsSettled M.seen.lines → (accepted : List AskedOf) → Accords accepted M.past.askings →
         are_so answer_fits (here_of accepted M before) wrote ≡ true
 
   more : (M : Moment) (ws bs : List Body) → M.past.number ≡ event → M.seen.lines ≡ before ++ numbered event ws →
@@ -190,7 +194,7 @@ module _ (hd : Header) (st : Start) (before : List Line) (event : ℕ) where
 
   -- lines come that fit
   said_so : (bs : List Body) (M : Moment) → (IsSettled M.seen.lines → (accepted : List AskedOf) →
-      IsAsked accepted (accepted_of M.past.askings) → (h : Here) →
+      Accords accepted M.past.askings → (h : Here) →
       h ≡ here_of accepted M M.seen.lines → are_so answer_fits h bs ≡ true) → Lined M → Lined (said bs M)
   said_so bs M fit h = record {
     number = h.number;
@@ -208,7 +212,7 @@ module _ (hd : Header) (st : Start) (before : List Line) (event : ℕ) where
   free_lined bs M all h = said_so bs M (λ early accepted same g is. free_so g bs all) h
 
   one_lined : (b : Body) (M : Moment) → (IsSettled M.seen.lines → (accepted : List AskedOf) →
-      IsAsked accepted (accepted_of M.past.askings) → answer_fits (here_of accepted M M.seen.lines) b ≡ true) →
+      Accords accepted M.past.askings → answer_fits (here_of accepted M M.seen.lines) b ≡ true) →
       Lined M → Lined (said (b ∷ []) M)
   one_lined b M fits h = said_so (b ∷ []) M
       (λ early accepted same g is. λ i. (ap (λ z. answer_fits z b) is ∙ fits early accepted same) i && true) h
@@ -231,7 +235,7 @@ module _ (hd : Header) (st : Start) (before : List Line) (event : ℕ) where
       lines = before;
     }) h.wrote) ∙
         h.fit (subst IsSettled lines early) accepted
-        (same.0 ∙ ap (λ (p : History). filter asks_some (accepted_of p.askings)) past, same.1);
+        ((same.0.0 ∙ ap (λ (p : History). filter asks_some (accepted_of p.askings)) past, same.0.1), same.1);
   }
 
   framed_lined : (b : Body) (M : Moment) (n : ℕ) → FitsAnywhere b → Lined M →
@@ -289,7 +293,7 @@ module _ (hd : Header) (st : Start) (before : List Line) (event : ℕ) where
   -- ---- steps
 
   module _ (G : Moment → Type 0) (steps : KeepsSteps hd G)
-      (works : (k : ℕ) (d : Disk) (t : Parts) (M : Moment) → G (up k d t M) → Works hd k d t M)
+      (works : (k : ℕ) (d : Disk) (t : Parts) (M : Moment) → G (up k d t M) → Works A hd k d t M)
       (locked : (k : ℕ) (d : Disk) (t : Parts) (M : Moment) → G (up k d t M) → LoadsAreLocked (up k d t M))
       (begins : (k : ℕ) (d : Disk) (t : Parts) (M : Moment) → G (up k d t M) → M.seen.start ≡ st) where
     abbrev Both : Moment → Type 0
@@ -299,27 +303,29 @@ module _ (hd : Header) (st : Start) (before : List Line) (event : ℕ) where
         WalksWith Lined k outs (UpWith Lined k v) d M → WalksWith Both k outs (UpWith Both k v) d M
     both k outs v d M a b = with_both G Lined k outs (UpWith G k v) (UpWith Lined k v) d M a b
 
-    module _ (k : ℕ) (d : Disk) (t : Parts) (M : Moment) (W : Works hd k d t M) (L : LoadsAreLocked (up k d t M)) (begun : M.seen.start ≡
+    module _ (k : ℕ) (d : Disk) (t : Parts) (M : Moment) (W : Works A hd k d t M) (L : LoadsAreLocked (up k d t M)) (begun : M.seen.start ≡
         st)
         (h : Lined M) where
       busy : (u : Uid) (w : Doing) (s : Steps) → doing_of u t.coord ≡ Some w → w.now ≡ Calling s → actor s.path ≡ u
-      busy u w s found is = let c = caller hd k d t M W u w s found is in c.actor
+      busy u w s found is = let c = caller A hd k d t M W u w s found is in c.actor
 
       -- a binding that its root keeps it has from another call
-      keeper : (accepted : List AskedOf) → IsAsked accepted (accepted_of M.past.askings) → (u : Uid) (w : Doing) (s : Steps)
+      keeper : (accepted : List AskedOf) → Accords accepted M.past.askings → (u : Uid) (w : Doing) (s : Steps)
           (found : doing_of u t.coord ≡ Some w) (is : w.now ≡ Calling s) (avoid : Binding) → s.at ≡ AtBind avoid → (old : Known) →
           kept_of s.x (root_at (root_of s.path) t.coord) ≡ Some old →
-          list_any (is_other_call (let c = caller hd k d t M W u w s found is in let z = c.asked in let y = z.asking in y.asked) s.x) accepted
+          list_any (is_other_call (let c = caller A hd k d t M W u w s found is in let z = c.asked in let y = z.asking in y.asked) s.x)
+          accepted
           ≡ true
       keeper accepted same u w s found is avoid at old keeps =
-          other_call M.past.askings accepted same.0 same.1 t.coord (root_of s.path) (root_own hd k d t M W u w s found is) s.x F (name w.label)
+          other_call M.past.askings accepted same.0.0 same.0.1 t.coord (root_of s.path) (root_own A hd k d t M W u w s found is) s.x F
+          (name w.label)
           (let z = c.asked.asking in z.asked) c.asked.last (F.other u w s found is (ap is_bind at)) (acts M.seen.lines) c.distinct
           (λ z i. asked_acts M.seen.lines from.0 (h.paths from.0 from.1) z (subst (λ (a : AskedOf). In z a.path) (sym from.2) i))
           (λ z i. asked_acts M.seen.lines c.asked.asking (h.paths c.asked.asking c.asked.there) z i) (ap first_uid c.asked.path)
           (subst (λ us. 1 ≤ length us) (sym c.asked.path) (path_some s.path))
         where
           c : IsCaller k M u w s
-          c = caller hd k d t M W u w s found is
+          c = caller A hd k d t M W u w s found is
 
           F : IsFromCall M.past.askings (accepted_of M.past.askings) t.coord (root_of s.path) s.x
           F = (own_of k d t M L).1 (root_of s.path) s.x old keeps
@@ -332,7 +338,7 @@ module _ (hd : Header) (st : Start) (before : List Line) (event : ℕ) where
           doing_of u t.coord ≡ Some w → w.now ≡ Calling s → (a : Asked) (r : Reply) → answers m ≡ Some (a, r) → a.act ≡ u →
           waits_for_call from a r s ≡ true → EndsBy (kept_at s t.coord) s.goal s.at r g → IsSettled M.seen.lines →
           (accepted : List AskedOf) →
-          IsAsked accepted (accepted_of M.past.askings) →
+          Accords accepted M.past.askings →
           answer_fits (here_of accepted M M.seen.lines) (end_line s.x s.goal g w.label) ≡ true
       line_fits from m there u w s g found is a r answer act waits ends early accepted same = by g ends
         where
@@ -341,37 +347,39 @@ module _ (hd : Header) (st : Start) (before : List Line) (event : ℕ) where
           by (Answered b) ends = on s.goal refl
             where
               on : (z : Goal) → s.goal ≡ z → answer_fits (here_of accepted M M.seen.lines) (answer_line s.x z b w.label) ≡ true
-              on (Run o) goal = ok_so hd k M (here_of accepted M M.seen.lines) refl refl
-                  (asks_same accepted (accepted_of M.past.askings) same.0) u w s (caller hd k d t M W u w s found is) h.paths
-                  (kept_of s.x (root_at (root_of s.path) t.coord)) (stands_on hd k d t M W u w s found is) from a r
-                  (taken hd k d t M W u w s found is from m there a r answer act waits) ends.0 ends.1 o b ends.2 goal ends.3
+              on (Run o) goal = ok_so A hd k M (here_of accepted M M.seen.lines) refl refl
+                  (asks_same accepted (accepted_of M.past.askings) same.0.0) u w s (caller A hd k d t M W u w s found is) h.paths
+                  (kept_of s.x (root_at (root_of s.path) t.coord)) (stands_on A hd k d t M W u w s found is) from a r
+                  (taken A hd k d t M W u w s found is from m there a r answer act waits) ends.0 ends.1 o b ends.2 goal ends.3
               on (Include n) goal = let never : ⊥ = subst (λ z. StandsOn z (kept_of s.x (root_at (root_of s.path) t.coord))
                   (AtInvoke ends.0 ends.1)) goal (subst (StandsOn s.goal (kept_of s.x (root_at (root_of s.path) t.coord))) ends.2
-                  (stands_on hd k d t M W u w s found is)) in absurd never
+                  (stands_on A hd k d t M W u w s found is)) in absurd never
           by (Included stored) ends =
               subst (λ z. answer_fits (here_of accepted M M.seen.lines) (end_line s.x z (Included stored) w.label) ≡ true) (sym ends.1)
-              (included_so hd k M (here_of accepted M M.seen.lines) refl refl
-              (asks_same accepted (accepted_of M.past.askings) same.0) u w s (caller hd k d t M W u w s found is) h.paths
-              (kept_of s.x (root_at (root_of s.path) t.coord)) (stands_on hd k d t M W u w s found is) ends.0 ends.1
+              (included_so A hd k M (here_of accepted M M.seen.lines) refl refl
+              (asks_same accepted (accepted_of M.past.askings) same.0.0) u w s (caller A hd k d t M W u w s found is) h.paths
+              (kept_of s.x (root_at (root_of s.path) t.coord)) (stands_on A hd k d t M W u w s found is) ends.0 ends.1
               ((own_of k d t M L).0 u w s found is (load_on s.at ends.2)))
-          by (Conflict v held n) ends = conflict_so hd k M (here_of accepted M M.seen.lines) refl refl
-              (asks_same accepted (accepted_of M.past.askings) same.0) u w s (caller hd k d t M W u w s found is)
-              h.paths (kept_of s.x (root_at (root_of s.path) t.coord)) (stands_on hd k d t M W u w s found is) from a r
-              (taken hd k d t M W u w s found is from m there a r answer act waits) W.form early.early
-              (off_called hd k d t M W u w s found is) v held n ends
-          by (Changed n x) ends = changed_so hd k M (here_of accepted M M.seen.lines) refl refl
-              (asks_same accepted (accepted_of M.past.askings) same.0) u w s (caller hd k d t M W u w s found is) h.paths
-              (kept_of s.x (root_at (root_of s.path) t.coord)) (stands_on hd k d t M W u w s found is) from a r
-              (taken hd k d t M W u w s found is from m there a r answer act waits) (sym begun) (let z = early.early in z.few)
-              (are_given hd k d t M W u w s found is) early.begins ((own_of k d t M L).0 u w s found is)
-              (λ avoid at old keeps. keeper accepted same u w s found is avoid at old keeps) (told hd k d t M W u w s found is from m there a r answer act waits)
-              (step_so hd k d t M W u w s found is) (kept_binding hd k d t M W u w s found is)
-              (replied hd k d t M W u w s found is from m there a r answer act waits)
-              (λ o goal y i at. invoke_kept hd k d t M W u w s found is early.early o goal y i at)
-              (λ o goal avoid at b server i g stores live old first keeps has alike. live_kept hd k d t M W u w s found is from m there a r
+          by (Conflict v held n) ends = conflict_so A hd k M (here_of accepted M M.seen.lines) refl refl
+              (asks_same accepted (accepted_of M.past.askings) same.0.0) u w s (caller A hd k d t M W u w s found is)
+              h.paths (kept_of s.x (root_at (root_of s.path) t.coord)) (stands_on A hd k d t M W u w s found is) from a r
+              (taken A hd k d t M W u w s found is from m there a r answer act waits) same.1 W.form early.early
+              (off_called A hd k d t M W u w s found is) v held n ends
+          by (Changed n x) ends = changed_so A hd k M (here_of accepted M M.seen.lines) refl refl
+              (asks_same accepted (accepted_of M.past.askings) same.0.0) u w s (caller A hd k d t M W u w s found is) h.paths
+              (kept_of s.x (root_at (root_of s.path) t.coord)) (stands_on A hd k d t M W u w s found is) from a r
+              (taken A hd k d t M W u w s found is from m there a r answer act waits) (sym begun) (let z = early.early in z.few)
+              (are_given A hd k d t M W u w s found is) early.begins ((own_of k d t M L).0 u w s found is)
+              (λ avoid at old keeps. keeper accepted same u w s found is avoid at old keeps)
+              (told A hd k d t M W u w s found is from m there a r answer act waits)
+              (step_so A hd k d t M W u w s found is) (kept_binding A hd k d t M W u w s found is)
+              (replied A hd k d t M W u w s found is from m there a r answer act waits)
+              (λ o goal y i at. invoke_kept A hd k d t M W u w s found is early.early o goal y i at)
+              (λ o goal avoid at b server i g stores live old first keeps has alike. live_kept A hd k d t M W u w s found is from m
+              there a r
               answer act waits early.early o goal avoid at b server i g stores live old first keeps has alike) n x ends
           by (Lost n b) ends = absurd (none_full ends.0 (subst ReplyFull ends.1
-              (full_reply hd k d t M W u w s found is from m there a r answer act waits)) ends.2)
+              (full_reply A hd k d t M W u w s found is from m there a r answer act waits)) ends.2)
 
       message_lined : (v : Parts) (from : ℕ) (m : Message) (outs : List Effect) → seen.In (post from k m) M.seen.sent →
           handle k d t from m ≡ Took v outs → WalksWith Lined k outs (UpWith Lined k v) d M
@@ -416,7 +424,7 @@ module _ (hd : Header) (st : Start) (before : List Line) (event : ℕ) where
               w.now ≡ Calling s → input.GiveUp l ≡ input.GiveUp m → branch_named m t.coord ≡ Some b → u ≡ actor b.path →
               given_up s.at ≡ Ended g →
               (let N = said (body.GaveUp w.label (next_node s) ∷ []) M in IsSettled N.seen.lines) → (accepted : List AskedOf) →
-              IsAsked accepted (accepted_of M.past.askings) →
+              Accords accepted M.past.askings →
               (let N = said (body.GaveUp w.label (next_node s) ∷ []) M in
               answer_fits (here_of accepted N N.seen.lines) (end_line s.x s.goal g w.label) ≡ true)
           lost u w s g m b found calls gives named at_act ends early accepted same =
@@ -425,8 +433,8 @@ module _ (hd : Header) (st : Start) (before : List Line) (event : ℕ) where
               let H = here_of accepted N N.seen.lines in
               subst (λ e. answer_fits H (end_line s.x s.goal e w.label) ≡ true) (sym its.2)
               (subst (λ n. answer_fits H (body.Lost w.label n) ≡ true) its.3
-              (lost_so k M H M.past.number u w s (caller hd k d t M W u w s found calls) (next_node s) refl
-              (asks_same accepted (accepted_of M.past.askings) same.0) before event h.wrote refl
+              (lost_so k M H M.past.number u w s (caller A hd k d t M W u w s found calls) (next_node s) refl
+              (asks_same accepted (accepted_of M.past.askings) same.0.0) before event h.wrote refl
               (more M h.wrote (body.GaveUp w.label (next_node s) ∷ []) h.number h.lines)
               (ap (gives_up (name w.label)) (brings_give M.past.event l brings) ∙ same_label)))
             where

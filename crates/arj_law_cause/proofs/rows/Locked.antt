@@ -214,7 +214,8 @@ asked_locked st ls A B l s same h = record {
 
 -- ---- one node
 
-module _ (hd : Header) (k : ℕ) (d : Disk) (t : Parts) (M : Moment) (W : Works hd k d t M) (locked : LoadsAreLocked (up k d t M)) where
+module _ (A : List AskedOf) (hd : Header) (k : ℕ) (d : Disk) (t : Parts) (M : Moment) (W : Works A hd k d t M)
+    (locked : LoadsAreLocked (up k d t M)) where
   abbrev mine_node : Node
   mine_node = record { number = k; disk = d; live = Some t }
 
@@ -259,24 +260,24 @@ module _ (hd : Header) (k : ℕ) (d : Disk) (t : Parts) (M : Moment) (W : Works 
         waits_for_call from a r s ≡ true → s.at ≡ AtBind avoid → r ≡ Reply.Bound q → is_write q ≡ true → grant_of next ≡ grant_in q →
         IsLocked M.seen.start M.seen.lines M.past.askings w.label (record s { req = s.req + 1; at = next })
     new s w avoid q next found is waits bind reply write grant =
-        given_by (granted hd k d t M W a.act w s found is from m sent_it a r answer refl waits)
+        given_by (granted A hd k d t M W a.act w s found is from m sent_it a r answer refl waits)
       where
-        given_by : IsGranted hd from M s (let c = caller hd k d t M W a.act w s found is in let z = c.asked in z.asking) r →
+        given_by : IsGranted A hd from M s (let c = caller A hd k d t M W a.act w s found is in let z = c.asked in z.asking) r →
             IsLocked M.seen.start M.seen.lines M.past.askings w.label (record s { req = s.req + 1; at = next })
         given_by T = by q reply write grant
           where
             request : T.ask ≡ ask.Bind s.x (is_include s.goal) avoid
             request = bind_is T.ask s.x (is_include s.goal) avoid (T.same ∙ (λ j. ask_at s.x s.goal [] (bind j)))
 
-            so : says_of hd from (head_of s) (ask.Bind s.x (is_include s.goal) avoid) r T.before
-            so = subst (λ z. says_of hd from (head_of s) z r T.before) request T.so
+            so : says_of A hd from (head_of s) (ask.Bind s.x (is_include s.goal) avoid) r T.before
+            so = subst (λ z. says_of A hd from (head_of s) z r T.before) request T.so
 
             differs : says_differs M.seen.start from (head_of s) (ask.Bind s.x (is_include s.goal) avoid) r T.before
             differs = subst (λ z. says_differs M.seen.start from (head_of s) z r T.before) request T.differs
 
             late : (e : AskedOf) → last_asked (asks_by (accepted_of M.past.askings) (name w.label)) ≡ Some e → e.at ≤ length T.before
             late e last = subst (λ (z : AskedOf). z.at ≤ length T.before)
-                (some_is (sym (let c = caller hd k d t M W a.act w s found is in let z = c.asked in z.last) ∙ last)) T.late
+                (some_is (sym (let c = caller A hd k d t M W a.act w s found is in let z = c.asked in z.last) ∙ last)) T.late
 
             locked_by : has_lock 1 (top_of s.path) (entry s.x) mode.Write T.before ≡ true → IsGrantOf M.seen.start T.before s.goal next →
                 IsLocked M.seen.start M.seen.lines M.past.askings w.label (record s { req = s.req + 1; at = next })
@@ -292,11 +293,11 @@ module _ (hd : Header) (k : ℕ) (d : Disk) (t : Parts) (M : Moment) (W : Works 
             by (bound.Live b server i g stores) same on its = absurd (cc on)
             by (bound.Make b server g stores) same on its =
                 let says : (is_include s.goal ≡ false) × (has_lock 1 (top_of s.path) (entry s.x) mode.Write T.before ≡ true) =
-                subst (λ z. says_of hd from (head_of s) (ask.Bind s.x (is_include s.goal) avoid) z T.before) same so in
+                subst (λ z. says_of A hd from (head_of s) (ask.Bind s.x (is_include s.goal) avoid) z T.before) same so in
                 locked_by says.1 (known s.goal (its
                 ∙ subst (λ z. says_differs M.seen.start from (head_of s) (ask.Bind s.x (is_include s.goal) avoid) z T.before) same differs))
             by (bound.Write g stores) same on its =
-                locked_by (subst (λ z. says_of hd from (head_of s) (ask.Bind s.x (is_include s.goal) avoid) z T.before) same so)
+                locked_by (subst (λ z. says_of A hd from (head_of s) (ask.Bind s.x (is_include s.goal) avoid) z T.before) same so)
                 (known s.goal (its
                 ∙ subst (λ z. says_differs M.seen.start from (head_of s) (ask.Bind s.x (is_include s.goal) avoid) z T.before) same differs))
 
@@ -311,13 +312,13 @@ module _ (hd : Header) (k : ℕ) (d : Disk) (t : Parts) (M : Moment) (W : Works 
       object = used_is asked.event (let g = c.asked.goal in g.0) s.x s.goal its_event;
       some = subst (λ us. 1 ≤ length us) (sym (let a = c.asked in a.path)) (path_some s.path);
       root = ap (λ us. (let u = first_uid us in u.num)) (let a = c.asked in a.path);
-      own = ap (λ us. is_own (first_uid us) t.coord.tree) (let a = c.asked in a.path) ∙ root_own hd k d t M W a.act w s found is;
+      own = ap (λ us. is_own (first_uid us) t.coord.tree) (let a = c.asked in a.path) ∙ root_own A hd k d t M W a.act w s found is;
       others = λ u y z other there calls on. inl (ap (is_ask_by (name y.label)) its_event ∙ label_off (name y.label) (let g = c.asked.goal in g.0)
           s.goal ∙ ap (λ l. bytes_eq l (name y.label)) (let g = c.asked.goal in g.1) ∙ apart u y other there (bytes_eq (name w.label) (name y.label)) refl);
     }
       where
         c : IsCaller k M a.act w s
-        c = caller hd k d t M W a.act w s found is
+        c = caller A hd k d t M W a.act w s found is
 
         asked : AskedOf
         asked = let z = c.asked.asking in z.asked
@@ -602,8 +603,8 @@ module _ (hd : Header) (k : ℕ) (d : Disk) (t : Parts) (M : Moment) (W : Works 
 
 -- ---- every handler
 
-module _ (hd : Header) (G : Moment → Type 0) (steps : KeepsSteps hd G)
-    (works : (k : ℕ) (d : Disk) (t : Parts) (M : Moment) → G (up k d t M) → Works hd k d t M) where
+module _ (A : List AskedOf) (hd : Header) (G : Moment → Type 0) (steps : KeepsSteps hd G)
+    (works : (k : ℕ) (d : Disk) (t : Parts) (M : Moment) → G (up k d t M) → Works A hd k d t M) where
   pub locked_step : KeepsSteps hd (λ M. G M × LoadsAreLocked M)
   locked_step = record {
     quiet = λ bs M plain h. (
@@ -621,18 +622,18 @@ module _ (hd : Header) (G : Moment → Type 0) (steps : KeepsSteps hd G)
     );
     message = λ k d t v from m outs M h there meant may is.
         both k outs v d M (steps.message k d t v from m outs M h.0 there meant may is)
-        (message_walk hd k d t M (works k d t M h.0) h.1 v from m outs there is);
+        (message_walk A hd k d t M (works k d t M h.0) h.1 v from m outs there is);
     act = λ k d t i M is brings first asks free h. let did = does i d.intents t.coord in
         both k did.outs (with_coord t did.part) d (asks_now i t.coord M) (steps.act k d t i M is brings first asks free h.0)
-        (act_walk hd k d t M (works k d t M h.0) h.1 i is brings free);
+        (act_walk A hd k d t M (works k d t M h.0) h.1 i is brings free);
     begin = λ k d t l how parent M brings first new gives none h.
         let did = begin_action l how parent (parent_of parent t.coord) t.coord in
         both k did.outs (with_coord t did.part) d (given l (record { node = k; serial = is_serial how }) M)
         (steps.begin k d t l how parent M brings first new gives none h.0)
-        (begin_walk hd k d t M (works k d t M h.0) h.1 l how parent);
+        (begin_walk A hd k d t M (works k d t M h.0) h.1 l how parent);
     tick = λ k d t M h. let r = again_all t.coord.doings t.coord in
         both k (tick_outs (record { number = k; disk = d; live = Some t }) t) (with_coord t r.part) d M (steps.tick k d t M h.0)
-        (tick_walk hd k d t M (works k d t M h.0) h.1);
+        (tick_walk A hd k d t M (works k d t M h.0) h.1);
     restart = λ k d M event first h. both k (restart_outs hd k (d.inc + 1) d) (parts_in k (d.inc + 1) d) d M
         (steps.restart k d M event first h.0) (walk k (parts_in k (d.inc + 1) d) (restart_outs hd k (d.inc + 1) d) d M
         (off_of k d None M h.1) (

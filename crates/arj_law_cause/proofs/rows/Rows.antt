@@ -36,7 +36,7 @@ use Rattle.arj_model.specs.CauseAnswers.{meets_at_store}
 use Rattle.arj_model.specs.CauseAnswers.{mode_of_call, modes_on_entry, ok_caused, was_told}
 use Rattle.arj_journal.specs.ScriptForm.{HeaderInForm}
 use Rattle.arj_model.specs.Actions.{Placed, top_in}
-use Rattle.arj_model.specs.CausePends.{called_at, may_store}
+use Rattle.arj_model.specs.CausePends.{called_at, is_pending, may_store, pends, pends_from}
 use Rattle.arj_model.specs.CauseAnswers as cause
 use Rattle.arj_law_parts.proofs.parts.Begun.{path_some}
 use Rattle.arj_law_runs.proofs.journal.{Models.in_later, Owners.acts_more, Ties.on_path}
@@ -69,12 +69,12 @@ use Rattle.arj_law_cause.proofs.rows.Entered.{GrantsBegan, entered_then}
 use Rattle.arj_law_cause.proofs.rows.Loading.{IsGrantOf, IsLocked, is_on_way}
 use Rattle.arj_law_cause.proofs.rows.Paths.{one_top, top_is}
 use Rattle.arj_law_cause.proofs.rows.Spans.{answered_at, in_range, or_first, or_last, rows_so, sent_to, shown_from}
-use Rattle.arj_law_cause.proofs.rows.Pending.{IsCalledAt, called_act}
+use Rattle.arj_law_cause.proofs.rows.Pends.{IsCalledAt, called_act}
 use Rattle.arj_law_cause.proofs.confirm.Joined.{early_before}
 use Rattle.arj_law_cause.specs.rows.Early.{IsEarly}
-use Rattle.arj_law_cause.specs.rows.Says.{entry_modes, has_changed, has_upper, may_be_in_doubt, may_be_pending, may_pend, says_of}
+use Rattle.arj_law_cause.specs.rows.Says.{entry_modes, has_changed, has_upper, says_of}
 use Rattle.arj_law_cause.proofs.rows.Taking.{AskedPaths, IsCaller, IsPathAt, IsTaken, IsTold, bind_is}
-use Rattle.arj_law_cause.specs.rows.Lines.{answer_fits, came_from_store}
+use Rattle.arj_law_cause.specs.rows.Lines.{answer_fits}
 
 -- ---- requests
 
@@ -208,7 +208,7 @@ runs_so (Include n) is = let no_way : true ≡ false = is in absurd (cc no_way)
 
 -- ---- the rows
 
-module _ (hd : Header) (k : ℕ) (M : Moment) (h : Here) (header : h.header ≡ hd) (lines : h.lines ≡ M.seen.lines)
+module _ (A : List AskedOf) (hd : Header) (k : ℕ) (M : Moment) (h : Here) (header : h.header ≡ hd) (lines : h.lines ≡ M.seen.lines)
     (accepted : (l : List ℕ) → asks_by h.accepted l ≡ asks_by (accepted_of M.past.askings) l) (u : Uid) (w : Doing) (s : Steps)
     (c : IsCaller k M u w s)
     (paths : AskedPaths M) (kept : Option Known) (stands : StandsOn s.goal kept s.at) where
@@ -266,7 +266,7 @@ module _ (hd : Header) (k : ℕ) (M : Moment) (h : Here) (header : h.header ≡ 
 
   -- ---- an answer that it takes
 
-  module _ (from : ℕ) (a : Asked) (r : Reply) (T : IsTaken hd k from M s (let z = c.asked in z.asking) a r) where
+  module _ (from : ℕ) (a : Asked) (r : Reply) (T : IsTaken A hd k from M s (let z = c.asked in z.asking) a r) where
     -- where a frame of this kind brought the answer, the row finds what shows there
     found_at : (what : FrameKind) → frame_kind (response a r) ≡ what → same_frame what what ≡ true → (shows : List Line → Bool) →
         shows T.before ≡ true → answered h (let z = q in z.at) (let v = c.act.uid in v.node) from (what ∷ []) shows ≡ true
@@ -315,8 +315,8 @@ module _ (hd : Header) (k : ℕ) (M : Moment) (h : Here) (header : h.header ≡ 
         request = invoke_is T.ask s.x x.binding i run.0 (T.same ∙ (λ j. ask_at s.x (run.1 j) [] (at j)))
 
         so : (meets from (uids_of s.path) (object s.x) (op_mode run.0) v m T.before ≡ true) × (has_act (acts T.before) v ≡ true)
-        so = subst (λ z. says_of hd from (head_of s) z (Reply.Invoked (invoked.Conflict v m)) T.before) request.1
-            (subst (λ z. says_of hd from (head_of s) T.ask z T.before) is T.so)
+        so = subst (λ z. says_of A hd from (head_of s) z (Reply.Invoked (invoked.Conflict v m)) T.before) request.1
+            (subst (λ z. says_of A hd from (head_of s) T.ask z T.before) is T.so)
 
         its_mode : mode_of_call (let z = q in z.event) ≡ Some (op_mode run.0)
         its_mode = ap mode_of_call (its_event ∙ ap (asks_goal (let g = c.asked.goal in g.0) s.x) run.1)
@@ -341,8 +341,8 @@ module _ (hd : Header) (k : ℕ) (M : Moment) (h : Here) (header : h.header ≡ 
         request = invoke_is T.ask s.x x.binding i o (T.same ∙ (λ j. ask_at s.x (goal j) [] (at j)))
 
         so : has_lock from (actor s.path) (object s.x) (op_mode o) T.before ≡ true
-        so = subst (λ z. says_of hd from (head_of s) z (Reply.Invoked (invoked.Answered b)) T.before) request.1
-            (subst (λ z. says_of hd from (head_of s) T.ask z T.before) is T.so)
+        so = subst (λ z. says_of A hd from (head_of s) z (Reply.Invoked (invoked.Answered b)) T.before) request.1
+            (subst (λ z. says_of A hd from (head_of s) T.ask z T.before) is T.so)
 
         locked : list_any (λ n. answered h (let z = q in z.at) (let y = c.act.uid in y.node) n (frame.Invoked ∷ [])
             (has_lock n c.act.uid (object s.x) (op_mode o))) (nodes_of h.header) ≡ true
@@ -439,11 +439,11 @@ module _ (hd : Header) (k : ℕ) (M : Moment) (h : Here) (header : h.header ≡ 
 
       -- naming answers with a binding only to a call
       bound_to : (avoid : Binding) (z : BoundReply) → s.at ≡ AtBind avoid → r ≡ Reply.Bound z →
-          (says_of hd from (head_of s) (ask.Bind s.x (is_include s.goal) avoid) (Reply.Bound z) T.before → is_include s.goal ≡ false) →
+          (says_of A hd from (head_of s) (ask.Bind s.x (is_include s.goal) avoid) (Reply.Bound z) T.before → is_include s.goal ≡ false) →
           (o : Op) × (s.goal ≡ Run o)
-      bound_to avoid z at is says = runs_so s.goal (says (subst (λ y. says_of hd from (head_of s) y (Reply.Bound z) T.before)
+      bound_to avoid z at is says = runs_so s.goal (says (subst (λ y. says_of A hd from (head_of s) y (Reply.Bound z) T.before)
           (bind_is T.ask s.x (is_include s.goal) avoid (T.same ∙ (λ j. ask_at s.x s.goal [] (at j))))
-          (subst (λ y. says_of hd from (head_of s) T.ask y T.before) is T.so)))
+          (subst (λ y. says_of A hd from (head_of s) T.ask y T.before) is T.so)))
 
       bound_says : (avoid : Binding) (z : BoundReply) → s.at ≡ AtBind avoid → r ≡ Reply.Bound z → naming_told h c.act q ≡ true
       bound_says avoid z at is = naming_says frame.Bound (sym T.node ∙ ap (λ y. node_at y) at) (ap (λ y. frame_kind (response a y)) is) refl
@@ -710,8 +710,8 @@ module _ (hd : Header) (k : ℕ) (M : Moment) (h : Here) (header : h.header ≡ 
         so : (from ≡ 1) × (list_any (λ asked. meets 1 (top_path s.path) (entry s.x) asked v m T.before) (entry_modes
             (is_include s.goal)) ≡ true)
             × (has_upper (acts T.before) v ≡ true)
-        so = subst (λ z. says_of hd from (head_of s) z (Reply.Bound (bound.Conflict v m)) T.before) request
-            (subst (λ z. says_of hd from (head_of s) T.ask z T.before) is T.so)
+        so = subst (λ z. says_of A hd from (head_of s) z (Reply.Bound (bound.Conflict v m)) T.before) request
+            (subst (λ z. says_of A hd from (head_of s) T.ask z T.before) is T.so)
 
         upper : IsTopAction c.begun v
         upper = upper_from c.begun (acts M.seen.lines) c.alike v (ap (λ ls. has_upper (acts ls) v) T.are
@@ -753,28 +753,28 @@ module _ (hd : Header) (k : ℕ) (M : Moment) (h : Here) (header : h.header ≡ 
         by false = λ j. met j || meets_at_store h c.act q s.x v m from
 
     -- a store's conflict, with one whose commit was called
-    pub store_so : HeaderInForm hd → IsEarly M.seen.lines → ((v : Uid) (ls ms : List Line) → M.seen.lines ≡ ls ++ ms → IsCalledAt ls v →
-        is_on (uids_of s.path) v ≡ false) → (x : Known) (n : ℕ) (rest : List ℕ) (v : Uid) (m : Mode) → s.at ≡ AtLoad x n rest →
-        r ≡ Reply.Loaded (loaded.InDoubt v) → m ≡ mode.Write → came_from_store h (name w.label) v m from ≡ true
-    store_so form early off x n rest v m at is write = λ i. same_mode (write i) mode.Write && (known v T.before T.after T.are began_then i
-        && row_so (λ y z. not (is_on (uids z.path) v) && holds_in (λ o. answered h z.at y.uid.node from (frame.Loaded ∷ [])
-        (may_be_in_doubt h.header from v o)) (object_used z.event)) (λ j. (ap not (ap (λ us. is_on us v) its_path ∙ off v T.before T.after
-        T.are called)) j && (ap (holds_in (λ o. answered h (let z = q in z.at) (let y = c.act.uid in y.node) from (frame.Loaded ∷ [])
-        (may_be_in_doubt h.header from v o))) used ∙ found) j) i)
+    pub store_so : A ≡ h.accepted → HeaderInForm hd → IsEarly M.seen.lines → ((v : Uid) (ls ms : List Line) → M.seen.lines ≡ ls ++ ms →
+        IsCalledAt ls v → is_on (uids_of s.path) v ≡ false) → (x : Known) (n : ℕ) (rest : List ℕ) (v : Uid) (m : Mode) →
+        s.at ≡ AtLoad x n rest →
+        r ≡ Reply.Loaded (loaded.InDoubt v) → m ≡ mode.Write → conflict_caused h (name w.label) v m from ≡ true
+    store_so same form early off x n rest v m at is write = conflict_by v m began_then (off v T.before T.after T.are called)
+        (or_last (meets_at_server h c.act q s.x v m from) (meets_at_naming h c.act q s.x v m from || meets_at_store h c.act q s.x v m from)
+        (or_last (meets_at_naming h c.act q s.x v m from) (meets_at_store h c.act q s.x v m from)
+        (λ i. same_mode (write i) mode.Write && found i)))
       where
         request : T.ask ≡ ask.Load s.x
         request = load_is T.ask s.x (T.same ∙ (λ j. ask_at s.x s.goal [] (at j)))
 
-        so : (may_be_pending from v T.before ≡ true) × (HeaderInForm hd → may_store hd T.before from s.x ≡ true)
+        so : (pends A from v T.before ≡ true) × (HeaderInForm hd → may_store hd T.before from s.x ≡ true)
             × (HeaderInForm hd → IsEarly T.before → has_changed T.before v s.x ≡ true)
-        so = subst (λ z. says_of hd from (head_of s) z (Reply.Loaded (loaded.InDoubt v)) T.before) request
-            (subst (λ z. says_of hd from (head_of s) T.ask z T.before) is T.so)
+        so = subst (λ z. says_of A hd from (head_of s) z (Reply.Loaded (loaded.InDoubt v)) T.before) request
+            (subst (λ z. says_of A hd from (head_of s) T.ask z T.before) is T.so)
 
         called : IsCalledAt T.before v
         called = by (called_at T.before v) refl so.0
           where
             by : (o : Option (Placed (List Act))) → called_at T.before v ≡ o →
-                holds_in (λ (z : Placed (List Act)). may_pend from v (take z.at T.before) false (drop z.at T.before)) o ≡ true →
+                holds_in (λ (z : Placed (List Act)). pends_from A from v T.before z.at false (drop z.at T.before)) o ≡ true →
                 IsCalledAt T.before v
             by None none e = absurd (cc e)
             by (Some z) some e = (z, some)
@@ -783,27 +783,22 @@ module _ (hd : Header) (k : ℕ) (M : Moment) (h : Here) (header : h.header ≡ 
         began_then = let a = called_act T.before v called in any_in (λ (y : Act). uid_eq y.uid v) a.0 (acts T.before) a.1
             (ap (λ z. uid_eq z v) a.2 ∙ uid_same v)
 
-        found : answered h (let z = q in z.at) (let y = c.act.uid in y.node) from (frame.Loaded ∷ []) (may_be_in_doubt h.header from v s.x)
-            ≡ true
-        found = found_at frame.Loaded (ap (λ z. frame_kind (response a z)) is) refl (may_be_in_doubt h.header from v s.x)
+        found : answered h (let z = q in z.at) (let y = c.act.uid in y.node) from (frame.Loaded ∷ [])
+            (is_pending h.header h.accepted from v s.x) ≡ true
+        found = found_at frame.Loaded (ap (λ z. frame_kind (response a z)) is) refl (is_pending h.header h.accepted from v s.x)
             (λ i. so.2 form (early_before T.before T.after (subst IsEarly T.are early)) i
-            && ((ap (λ z. may_store z T.before from s.x) header ∙ so.1 form) i && so.0 i))
+            && ((ap (λ z. may_store z T.before from s.x) header ∙ so.1 form) i && (ap (λ z. pends z from v T.before) (sym same) ∙ so.0) i))
 
     -- any conflict's line
-    pub conflict_so : HeaderInForm hd → IsEarly M.seen.lines → ((v : Uid) (ls ms : List Line) → M.seen.lines ≡ ls ++ ms → IsCalledAt ls v →
-        is_on (uids_of s.path) v ≡ false) → (v : Uid) (m : Mode) (n : ℕ) → IsConflict s.at r v m n →
-        (conflict_caused h (name w.label) v m n || came_from_store h (name w.label) v m n) ≡ true
-    conflict_so form early off v m n (ByNaming avoid at is one) =
+    pub conflict_so : A ≡ h.accepted → HeaderInForm hd → IsEarly M.seen.lines → ((v : Uid) (ls ms : List Line) → M.seen.lines ≡ ls ++ ms →
+        IsCalledAt ls v → is_on (uids_of s.path) v ≡ false) → (v : Uid) (m : Mode) (n : ℕ) → IsConflict s.at r v m n →
+        conflict_caused h (name w.label) v m n ≡ true
+    conflict_so same form early off v m n (ByNaming avoid at is one) =
         let its : n ≡ from = one ∙ ap (λ z. node_at z) (sym at) ∙ T.node in
-        λ i. (ap (conflict_caused h (name w.label) v m) its ∙ naming_so avoid v m at is) i || came_from_store h (name w.label) v m n
-    conflict_so form early off v m n (ByServer x i at is one) =
+        ap (conflict_caused h (name w.label) v m) its ∙ naming_so avoid v m at is
+    conflict_so same form early off v m n (ByServer x i at is one) =
         let its : n ≡ from = one ∙ ap (λ z. node_at z) (sym at) ∙ T.node in
-        λ j. (ap (conflict_caused h (name w.label) v m) its ∙ server_so x i v m at is) j || came_from_store h (name w.label) v m n
-    conflict_so form early off v m n (ByStore x y rest at is write one) =
+        ap (conflict_caused h (name w.label) v m) its ∙ server_so x i v m at is
+    conflict_so same form early off v m n (ByStore x y rest at is write one) =
         let its : n ≡ from = one ∙ ap (λ z. node_at z) (sym at) ∙ T.node in
-        by (conflict_caused h (name w.label) v m n) (ap (came_from_store h (name w.label) v m) its ∙ store_so form early off x y rest v m
-        at is write)
-      where
-        by : (b : Bool) → came_from_store h (name w.label) v m n ≡ true → (b || came_from_store h (name w.label) v m n) ≡ true
-        by true it = refl
-        by false it = it
+        ap (conflict_caused h (name w.label) v m) its ∙ store_so same form early off x y rest v m at is write

@@ -6,7 +6,7 @@ use Words.{asked_by, handle_ask, response, Node, World, Arm, Move, counted, firs
 use Words.{limited, moved, no_labels}
 use Words.{numbered, reasons, run_event, run_unless, see, Seen, all_moved, world_from, with_coord, again_all, begin_action, parent_of}
 use Words.{parts_in, restart_outs, tick_outs, acts as does, IsFormed}
-use Words.{actor, ◌&&◌}
+use Words.{actor, ◌&&◌, inr, Post}
 use Words.body
 use Rattle.arj_law_parts.proofs.Terms.{Asked, says}
 use Rattle.arj_law_parts.proofs.Terms.which
@@ -21,7 +21,8 @@ use Rattle.arj_law_parts.proofs.moves.Worlds.{says_hold}
 use Rattle.arj_law_parts.specs.moves.Moments as Moments
 use Rattle.arj_law_parts.specs.moves.Moments.{History, Moment, asks_now, come, given, no_history, said}
 use Rattle.arj_law_parts.specs.moves.Seen as seen
-use Rattle.arj_law_parts.specs.moves.With.{Closes, HoldsAt, HoldsWith, KeepsAll, KeepsSteps, Opens, UpWith, Wrote, asked_of_node, look, past_event}
+use Rattle.arj_law_parts.specs.moves.With.{Closes, HoldsAt, HoldsWith, KeepsAll, KeepsSteps, Opens, UpWith, Wrote, asked_of_node, look}
+use Rattle.arj_law_parts.specs.moves.With.{past_event}
 use Rattle.arj_law_parts.specs.moves.With.{past_moves, past_unless, written}
 use Rattle.arj_law_parts.specs.steps.Writes as writes
 use Rattle.arj_law_serial.proofs.holding.{Events.IsShown, Events.event_shown, Events.first_is_shown, Events.first_showing}
@@ -31,12 +32,17 @@ use Rattle.arj_law_cause.proofs.confirm.Reached.{Reached, reached_kept}
 use Rattle.arj_law_cause.proofs.rows.Changing.{doubt_changed, prepare_changed}
 use Rattle.arj_law_cause.proofs.rows.{Inside.inside_step, Telling.served_says, Telling.silent_front, Telling.table_then}
 use Rattle.arj_law_cause.proofs.waits.lost.Bound.{all_both}
-use Rattle.arj_law_cause.proofs.rows.Asked.{ArePending, pending_keep}
+use Rattle.arj_law_cause.proofs.rows.Watching as pending
+use Rattle.arj_law_cause.proofs.rows.Watching.{Watched, right_asked, watched_steps}
+use Rattle.arj_law_cause.proofs.rows.Pends.{pends_are}
+use Rattle.arj_law_cause.proofs.rows.Watches.{in_event}
+use Rattle.arj_law_cause.proofs.rows.Worlds.{Fits, Settled, armed_settles, event_settles, first_settles}
+use Rattle.arj_model.specs.Past.{Asked as AskedOf}
 use Rattle.arj_law_cause.proofs.rows.Stores.{StoresAreKnown, stored_keep}
 use Rattle.arj_law_promise.proofs.Terms.{IsAtStarts, KeepsAsked, asked_both, keeps_asked}
 use Rattle.arj_law_parts.proofs.moves.Flat.{post}
-use Rattle.arj_model.specs.CausePends.{may_store}
-use Rattle.arj_law_cause.specs.rows.{Early.IsEarly, Runs.RunsMeetRows, Says.has_changed, Says.may_be_pending, Says.says_so, Tables.Inside, Tables.Tables}
+use Rattle.arj_model.specs.CausePends.{may_store, pends}
+use Rattle.arj_law_cause.specs.rows.{Early.IsEarly, Runs.RunsMeetRows, Says.has_changed, Says.says_so, Tables.Inside, Tables.Tables}
 
 -- ---- two relations
 
@@ -79,24 +85,36 @@ right_wide : (hd : Header) → KeepsAll hd (Wide (Right hd))
 right_wide hd = let k = wide_kept hd (IsAtStarts hd (Right hd)) (Right hd) (right_keep hd) in
     record { opens = k.opens; closes = k.closes; steps = k.steps; first = λ st formed. ([], (λ p i. i), k.first st formed) }
 
--- and what stores have prepared
+right_known : (hd : Header) → KeepsAll hd (Wide pending.Right)
+right_known hd = let k = wide_kept hd (IsAtStarts hd pending.Right) pending.Right (right_asked hd) in
+    record { opens = k.opens; closes = k.closes; steps = k.steps; first = λ st formed. ([], (λ p i. i), k.first st formed) }
+
+-- and what is right, with where requests come from
 abbrev pub Rights : Header → Moment → Type 0
-Rights hd M = Wide (Right hd) M × ArePending M
+Rights hd M = Wide (Right hd) M × Wide pending.Right M
 
 rights_keep : (hd : Header) → KeepsAll hd (Rights hd)
-rights_keep hd = all_both hd (Wide (Right hd)) ArePending (right_wide hd) (pending_keep hd)
+rights_keep hd = all_both hd (Wide (Right hd)) (Wide pending.Right) (right_wide hd) (right_known hd)
 
 abbrev pub Base : Seen → Type 0
 Base S = (begun : List Action) × KnownOf begun S
 
-abbrev pub Core : Header → Moment → Type 0
-Core hd M = ((Wide Known M × Wide Base M) × Rights hd M) × AnswersAreMade (says_so hd) M
+abbrev pub Core : List AskedOf → Header → Moment → Type 0
+Core A hd M = ((Wide Known M × Wide Base M) × Rights hd M) × AnswersAreMade (says_so A hd) M
 
 -- ---- inside of an event
 
+-- what nodes that are up have prepared may be pending
+abbrev pub Inner : List AskedOf → Header → Moment → Type 0
+Inner A hd M = Wide (Right hd) M × Watched A (in_event A) M
+
+inner_steps : (A : List AskedOf) (hd : Header) → KeepsSteps hd (Inner A hd)
+inner_steps A hd = steps_both hd (Wide (Right hd)) (Watched A (in_event A)) (let k = right_wide hd in k.steps)
+    (watched_steps A (in_event A) hd)
+
 -- tables show locks, and answers say what is so
-abbrev pub InEvent : Header → List Line → ℕ → Moment → Type 0
-InEvent hd before event M = (Tables hd before event M × Rights hd M) × AnswersAreMade (says_so hd) M
+abbrev pub InEvent : List AskedOf → Header → List Line → ℕ → Moment → Type 0
+InEvent A hd before event M = (Tables hd before event M × Inner A hd M) × AnswersAreMade (says_so A hd) M
 
 module _ (hd : Header) (before : List Line) (event : ℕ) (early : (j : ℕ) → (event == up_of j before) ≡ false) where
   pub tables_step : KeepsSteps hd (Tables hd before event)
@@ -104,7 +122,8 @@ module _ (hd : Header) (before : List Line) (event : ℕ) (early : (j : ℕ) →
       (steps_both hd (Wide Known) (Wide (Showing hd (length before) event)) (let k = known_wide hd in k.steps)
       (wide_steps hd ⊤ (Showing hd (length before) event) (showing_kept hd (length before) event ⊤ tt))) (inside_step before event hd)
 
-  pub tells : Tells (λ M. Tables hd before event M × Rights hd M) (says_so hd)
+module _ (A : List AskedOf) (hd : Header) (before : List Line) (event : ℕ) (early : (j : ℕ) → (event == up_of j before) ≡ false) where
+  pub tells : Tells (λ M. Tables hd before event M × Inner A hd M) (says_so A hd)
   tells k d t v from m h a r front M both there other meant asking new is =
       let known = both.0 in
       let s = known.0.1 in
@@ -116,9 +135,10 @@ module _ (hd : Header) (before : List Line) (event : ℕ) (early : (j : ℕ) →
       let silent = silent_front k d t v from h a r front served in
       let shown = table_then hd before event early k d t v from m front (response (asked_by h) r) M s.0 s.1 s.2 known.1 other there meant is
       silent in
-      served_says hd before event early k d t v from h r front (lines_behind M.past.number front M.seen.lines) shown.0 shown.1
-      l.place (λ u none held. subst (λ ls. may_be_pending k u ls ≡ true) (sym (none M.past.number M.seen.lines))
-      (both.1.1.1.2.1 k n u (λ i. if same_number k i then Some (record { number = k; disk = d; live = Some t }) else M.seen.nodes k) held))
+      served_says hd before event early k d t v from h r front (lines_behind M.past.number front M.seen.lines) A shown.0 shown.1
+      l.place (λ u none held. subst (λ ls. pends A k u ls ≡ true) (sym (none M.past.number M.seen.lines))
+      (pends_are A M.seen.lines k u ((both.1.1.1.1 tt).1 k n u
+      (λ i. if same_number k i then Some (record { number = k; disk = d; live = Some t }) else M.seen.nodes k) (inr refl) held)))
       a new (λ x same none form. subst (λ ls. may_store hd ls k x ≡ true) (sym (none M.past.number M.seen.lines))
       (let z = both.1.0.2.0.1 in z.loads (post from k m) h x (both.1.0.1 (post from k m) there)
       (asking ∙ ap (λ y. Some (h, y)) same) form)) (λ x u same none held form. subst (λ ls. IsEarly ls →
@@ -131,9 +151,9 @@ module _ (hd : Header) (before : List Line) (event : ℕ) (early : (j : ℕ) →
       (asking ∙ ap (λ y. Some (h, y)) same) s among u held form))
       served
 
-  pub event_step : KeepsSteps hd (InEvent hd before event)
-  event_step = answers_step hd (says_so hd) (λ M. Tables hd before event M × Rights hd M)
-      (steps_both hd (Tables hd before event) (Rights hd) tables_step (let k = rights_keep hd in k.steps))
+  pub event_step : KeepsSteps hd (InEvent A hd before event)
+  event_step = answers_step hd (says_so A hd) (λ M. Tables hd before event M × Inner A hd M)
+      (steps_both hd (Tables hd before event) (Inner A hd) (tables_step hd before event early) (inner_steps A hd))
       (λ M h. h.0.0.0) tells
 
 -- ---- events
@@ -169,23 +189,24 @@ wrote_more g w bs h = (
 
 -- Beside what is known so a relation is kept between events, and inside of each another one, that knows it too: the first leads to the
 -- second as the event comes, and comes back as it's over.
-pub record Beside (hd : Header) (P : Moment → Type 0) (I : List Line → ℕ → Moment → Type 0) : Type 0 where
+pub record Beside (A : List AskedOf) (hd : Header) (P : Moment → Type 0) (I : List Line → ℕ → Moment → Type 0) : Type 0 where
   pub inner : (before : List Line) (event : ℕ) → ((j : ℕ) → (event == up_of j before) ≡ false) → KeepsSteps hd (I before event)
-  pub knows : (before : List Line) (event : ℕ) (M : Moment) → I before event M → InEvent hd before event M
+  pub knows : (before : List Line) (event : ℕ) (M : Moment) → I before event M → InEvent A hd before event M
   pub opens : Opens P P
   pub enters : (before : List Line) (event : ℕ) (M : Moment) → M.past.number ≡ event → (let r = M.past.run in r.lines) ≡ before →
-      M.seen.lines ≡ before → InEvent hd before event M → P M → I before event M
+      M.seen.lines ≡ before → InEvent A hd before event M → P M → I before event M
   pub leaves : (before : List Line) (event : ℕ) → Closes (I before event) P
   pub labels : (M : Moment) → P M → P (said (body.Limit which.Labels ∷ []) M)
 
-module _ (hd : Header) (P : Moment → Type 0) (I : List Line → ℕ → Moment → Type 0) (beside : Beside hd P I) where
+module _ (A : List AskedOf) (hd : Header) (P : Moment → Type 0) (I : List Line → ℕ → Moment → Type 0) (beside : Beside A hd P I) where
   -- what holds between events
   abbrev Rest : Moment → Type 0
-  Rest M = Core hd M × P M
+  Rest M = Core A hd M × P M
 
   pub record StandsSo (g : History) (w : World) : Type 0 where
-    pub holds : HoldsWith hd (λ M. Core hd M × P M) g w
+    pub holds : HoldsWith hd (λ M. Core A hd M × P M) g w
     pub shown : IsShown hd w
+    pub settled : Settled hd A w
 
   module _ (g : History) (w : World) (h : StandsSo g w) where
     pub early : (j : ℕ) → (w.event + 1 == up_of j w.lines) ≡ false
@@ -204,11 +225,25 @@ module _ (hd : Header) (P : Moment → Type 0) (I : List Line → ℕ → Moment
             (subst (λ f. Terms.ShowsLocks n w.lines (memory_of (f n)))
             (sym nodes) (let s = h.shown in s.shown n))
 
+    -- what is prepared before the event
+    watched_at : (e : Event) → w.over ≡ false → (sent : List Post) → Wide pending.Right (look (come e g) sent (counted w)) →
+        Watched A (in_event A) (look (come e g) sent (counted w))
+    watched_at e over sent right = (
+      right,
+      (
+        (let o = h.holds in least (ap length (sym (o.lines over)))),
+        λ fits. ((λ q there x states is home. tt), λ j n u is m held. (let z = h.settled in z.pends j n u is held)),
+      ),
+    )
+      where
+        least : {m n : ℕ} → m ≡ n → n ≤ m
+        least is = omega (arith, is)
+
     -- as the event comes
     pub opened_so : (e : Event) → w.over ≡ false → HoldsAt hd (I w.lines (w.event + 1)) (come e g) (counted w)
     opened_so e over =
         let o = opens_at hd Rest Rest (λ f M first number c.
-        ((c.0.0, made_opens (says_so hd) f M first number c.0.1), beside.opens f M first number c.1)) e g w
+        ((c.0.0, made_opens (says_so A hd) f M first number c.0.1), beside.opens f M first number c.1)) e g w
         over h.holds in
         record {
           sent = o.sent;
@@ -228,7 +263,7 @@ module _ (hd : Header) (P : Moment → Type 0) (I : List Line → ℕ → Moment
                 ),
                 record { number = refl; wrote = []; lines = sym (append-nil w.lines); starts = λ is j. refl },
               ),
-              o.holds.0.0.1,
+              (o.holds.0.0.1.0, watched_at e over o.sent o.holds.0.0.1.1),
             ),
             o.holds.0.1,
           ) o.holds.1;
@@ -238,7 +273,11 @@ module _ (hd : Header) (P : Moment → Type 0) (I : List Line → ℕ → Moment
     closed_so : Closes (I w.lines (w.event + 1)) Rest
     closed_so bodies M number lines c =
         let k = beside.knows w.lines (w.event + 1) M c in (
-          (((k.0.0.0.0, (let s = k.0.0.0.1 in (s.0, s.1, (s.2.0, s.2.1)))), k.0.1), made_closes (says_so hd) bodies M number lines k.1),
+          (
+            ((k.0.0.0.0, (let s = k.0.0.0.1 in (s.0, s.1, (s.2.0, s.2.1)))), (k.0.1.0, k.0.1.1.0)),
+            made_closes
+                (says_so A hd) bodies M number lines k.1,
+          ),
           beside.leaves w.lines (w.event + 1) bodies M number lines c,
         )
 
@@ -272,7 +311,7 @@ module _ (hd : Header) (P : Moment → Type 0) (I : List Line → ℕ → Moment
                   ),
                   (let k = rights_keep hd in (let q = k.steps in q.quiet (body.Limit which.Labels ∷ []) M refl c.0.1)),
                 ),
-                made_later (says_so hd) M (said (body.Limit which.Labels ∷ []) M) (record {
+                made_later (says_so A hd) M (said (body.Limit which.Labels ∷ []) M) (record {
                   more = numbered M.past.number (body.Limit which.Labels ∷ []);
                   lines = refl;
                   askings = refl;
@@ -330,8 +369,9 @@ module _ (hd : Header) (P : Moment → Type 0) (I : List Line → ℕ → Moment
         by true over = h.holds
         by false over = unless_so e.event e.arm r refl over
 
-    pub next_so : (e : Asked) → StandsSo (past_event e w g) (run_event e w)
-    next_so e = record { holds = event_so e; shown = event_shown hd w h.shown e }
+    pub next_so : (e : Asked) → (w.over ≡ false → Fits hd A (w.event + 1) (let x = e in x.event)) →
+        StandsSo (past_event e w g) (run_event e w)
+    next_so e fits = record { holds = event_so e; shown = event_shown hd w h.shown e; settled = event_settles hd A e w fits h.settled }
 
   -- ---- runs
 
@@ -339,17 +379,21 @@ module _ (hd : Header) (P : Moment → Type 0) (I : List Line → ℕ → Moment
   armed_so g w arms h = record {
     holds = same_look g w arms Rest hd h.holds;
     shown = (let s = h.shown in record { known = arms_hold hd Base arms w s.known; shown = s.shown; early = s.early });
+    settled = armed_settles hd A arms w h.settled;
   }
 
-  pub move_so : (m : Move) (g : History) (w : World) → StandsSo g w → StandsSo (past_event m.asked (record w { arms = m.falls }) g)
-      (moved m w)
-  move_so m g w h =
+  pub move_so : (m : Move) (g : History) (w : World) → (w.over ≡ false → Fits hd A (w.event + 1) (let e = m.asked in e.event)) →
+      StandsSo g w → StandsSo (past_event m.asked (record w { arms = m.falls }) g) (moved m w)
+  move_so m g w fits h =
       let v = record w { arms = m.falls } in
-      armed_so (past_event m.asked v g) (run_event m.asked v) [] (next_so g v (armed_so g w m.falls h) m.asked)
+      armed_so (past_event m.asked v g) (run_event m.asked v) [] (next_so g v (armed_so g w m.falls h) m.asked fits)
 
-  pub moves_stand : (ms : List Move) (g : History) (w : World) → StandsSo g w → StandsSo (past_moves ms w g) (all_moved ms w)
-  moves_stand [] g w h = h
-  moves_stand (m ∷ ms) g w h = moves_stand ms (past_event m.asked (record w { arms = m.falls }) g) (moved m w) (move_so m g w h)
+  -- where no crash counts
+  pub moves_stand : ((e : ℕ) (v : Event) → Fits hd A e v) → (ms : List Move) (g : History) (w : World) → StandsSo g w →
+      StandsSo (past_moves ms w g) (all_moved ms w)
+  moves_stand fits [] g w h = h
+  moves_stand fits (m ∷ ms) g w h = moves_stand fits ms (past_event m.asked (record w { arms = m.falls }) g) (moved m w)
+      (move_so m g w (λ on. fits (w.event + 1) (let e = m.asked in e.event)) h)
 
   pub first_so : (st : Start) → IsFormed hd st → P (look (no_history st) [] (world_from hd st)) →
       StandsSo (no_history st) (world_from hd st)
@@ -369,7 +413,7 @@ module _ (hd : Header) (P : Moment → Type 0) (I : List Line → ℕ → Moment
               ),
               (let k = rights_keep hd in k.first st formed),
             ),
-            first_made hd (says_so hd) st formed,
+            first_made hd (says_so A hd) st formed,
           ),
           first,
         );
@@ -378,12 +422,13 @@ module _ (hd : Header) (P : Moment → Type 0) (I : List Line → ℕ → Moment
       lines = λ over. refl;
     };
     shown = first_is_shown hd st formed;
+    settled = first_settles hd A st formed;
   }
 
 -- nothing else
-pub none_beside : (hd : Header) → Beside hd (λ M. ⊤) (InEvent hd)
-none_beside hd = record {
-  inner = λ before event early. event_step hd before event early;
+pub none_beside : (A : List AskedOf) (hd : Header) → Beside A hd (λ M. ⊤) (InEvent A hd)
+none_beside A hd = record {
+  inner = λ before event early. event_step A hd before event early;
   knows = λ before event M h. h;
   opens = λ e M first number h. tt;
   enters = λ before event M number first lines k h. k;
@@ -391,11 +436,15 @@ none_beside hd = record {
   labels = λ M h. tt;
 }
 
+-- no crash counts
+pub none_fits : (hd : Header) (e : ℕ) (v : Event) → Fits hd [] e v
+none_fits hd e v n is = absurd (cc is)
+
 pub runs_meet : RunsMeetRows
 runs_meet hd r =
-    let b = none_beside hd in
-    let z = moves_stand hd (λ M. ⊤) (InEvent hd) b r.moves (no_history r.start) (world_from hd r.start)
-    (first_so hd (λ M. ⊤) (InEvent hd) b r.start r.formed tt) in
+    let b = none_beside [] hd in
+    let z = moves_stand [] hd (λ M. ⊤) (InEvent [] hd) b (none_fits hd) r.moves (no_history r.start) (world_from hd r.start)
+    (first_so [] hd (λ M. ⊤) (InEvent [] hd) b r.start r.formed tt) in
     let h = z.holds in
     record {
       now = record {

@@ -34,12 +34,12 @@ use Rattle.arj_law_runs.specs.calls.Coords.{IsOfStep, bare, head_of}
 use Rattle.arj_law_runs.specs.journal.Book.{is_over as over_in}
 use Rattle.arj_law_runs.specs.journal.Knows.{IsWritten}
 use Rattle.arj_model.specs.Actions.{halts, is_halted, path}
-use Rattle.arj_model.specs.Past.{label_of}
+use Rattle.arj_model.specs.Past.{Asked as AskedOf, label_of}
 use Rattle.arj_model.specs.Refusals.{has_ended, is_over_act}
 use Rattle.arj_journal.specs.ScriptForm.{HeaderInForm}
 use Rattle.arj_law_lock_view.proofs.view.TreeSteps.{above_there}
 use Rattle.arj_law_runs.specs.journal.{Book.new_book, Right.AreRight}
-use Rattle.arj_law_cause.proofs.rows.Pending.{IsCalledAt, called_book}
+use Rattle.arj_law_cause.proofs.rows.Pends.{IsCalledAt, called_book}
 use Rattle.arj_law_cause.proofs.waits.lost.Bound.{ReplyFull, says_full}
 use Rattle.arj_law_cause.proofs.bindings.Asking as bindings
 use Rattle.arj_law_cause.proofs.bindings.Copies.{active_by}
@@ -83,20 +83,20 @@ AskedPaths M = (q : Asking) → In q M.past.askings → IsPathAt M.seen.lines q
 -- ---- a node at work
 
 -- an answer says both, of the same lines
-abbrev pub both_so : Header → Start → Saying
-both_so hd st a before = says_so hd a before × differs_so st a before
+abbrev pub both_so : List AskedOf → Header → Start → Saying
+both_so A hd st a before = says_so A hd a before × differs_so st a before
 
-pub record Works (hd : Header) (k : ℕ) (d : Disk) (t : Parts) (M : Moment) : Type 0 where
+pub record Works (A : List AskedOf) (hd : Header) (k : ℕ) (d : Disk) (t : Parts) (M : Moment) : Type 0 where
   pub paths : HasPaths (up k d t M)
   pub tied : AskedAreTied (up k d t M)
   pub known : Wide Known (up k d t M)
   pub all : Wide KnowsAll (up k d t M)
   pub addressed : Wide (AreAddressed hd) (up k d t M)
-  pub made : AnswersAreMade (says_so hd) (up k d t M)
+  pub made : AnswersAreMade (says_so A hd) (up k d t M)
   pub full : AnswersAreMade says_full (up k d t M)
   pub bindings : Wide KnowsBindings (up k d t M)
   pub differs : AnswersAreMade (differs_so M.seen.start) (up k d t M)
-  pub both : AnswersAreMade (both_so hd M.seen.start) (up k d t M)
+  pub both : AnswersAreMade (both_so A hd M.seen.start) (up k d t M)
   pub reached : Wide (Reached hd) (up k d t M)
   pub form : HeaderInForm hd
 
@@ -121,7 +121,8 @@ pub record IsCaller (k : ℕ) (M : Moment) (u : Uid) (w : Doing) (s : Steps) : T
   pub path : (let a = caller in a.path) ≡ s.path
 
 -- The answer that is taken is to the last request of what was asked; where it was made, and what it says of the lines before.
-pub record IsTaken (hd : Header) (k from : ℕ) (M : Moment) (s : Steps) (q : Asking) (a : Asked) (r : Reply) : Type 0 where
+pub record IsTaken (A : List AskedOf) (hd : Header) (k from : ℕ) (M : Moment) (s : Steps) (q : Asking) (a : Asked)
+    (r : Reply) : Type 0 where
   pub ask : Ask
   pub same : bare ask ≡ next_ask [] s
   pub node : next_node s ≡ from
@@ -131,17 +132,17 @@ pub record IsTaken (hd : Header) (k from : ℕ) (M : Moment) (s : Steps) (q : As
   pub are : M.seen.lines ≡ before ++ after
   pub late : (let e = q.asked in e.at) ≤ length before
   pub framed : (from ≡ k) ⊎ BeginsWith from k (frame_kind (response a r)) after
-  pub so : says_of hd from (head_of s) ask r before
+  pub so : says_of A hd from (head_of s) ask r before
 
 -- The answer was made where it says both.
-pub record IsGranted (hd : Header) (from : ℕ) (M : Moment) (s : Steps) (q : Asking) (r : Reply) : Type 0 where
+pub record IsGranted (A : List AskedOf) (hd : Header) (from : ℕ) (M : Moment) (s : Steps) (q : Asking) (r : Reply) : Type 0 where
   pub ask : Ask
   pub same : bare ask ≡ next_ask [] s
   pub before : List Line
   pub after : List Line
   pub are : M.seen.lines ≡ before ++ after
   pub late : (let e = q.asked in e.at) ≤ length before
-  pub so : says_of hd from (head_of s) ask r before
+  pub so : says_of A hd from (head_of s) ask r before
   pub differs : says_differs M.seen.start from (head_of s) ask r before
 
 -- The answer was made where something changed, if it finds that.
@@ -154,7 +155,8 @@ pub record IsTold (from : ℕ) (M : Moment) (s : Steps) (q : Asking) (r : Reply)
   pub late : (let e = q.asked in e.at) ≤ length before
   pub so : says_differs M.seen.start from (head_of s) ask r before
 
-module _ (hd : Header) (k : ℕ) (d : Disk) (t : Parts) (M : Moment) (W : Works hd k d t M) (u : Uid) (w : Doing) (s : Steps)
+module _ (A : List AskedOf) (hd : Header) (k : ℕ) (d : Disk) (t : Parts) (M : Moment) (W : Works A hd k d t M) (u : Uid) (w : Doing)
+    (s : Steps)
     (found : doing_of u t.coord ≡ Some w) (is : w.now ≡ Calling s) where
   abbrev mine_node : Node
   mine_node = record { number = k; disk = d; live = Some t }
@@ -464,39 +466,39 @@ module _ (hd : Header) (k : ℕ) (d : Disk) (t : Parts) (M : Moment) (W : Works 
           low : {m n : ℕ} → m ≡ w.req → n ≤ w.req → n ≤ m
           low is le = omega (arith, le, is)
 
-    pub taken : IsTaken hd k from M s (let c = caller in let q = c.asked in q.asking) a r
+    pub taken : IsTaken A hd k from M s (let c = caller in let q = c.asked in q.asking) a r
     taken =
         let ans = W.made.sent (post from k m) a r sent_it answer in
         let q = ans.3 in
         let z = q.made in record {
           ask = ans.1;
-          same = (let o = made_by (says_so hd) ans in o.same);
+          same = (let o = made_by (says_so A hd) ans in o.same);
           node = its_node;
           sender = (let p = W.addressed.2.1.1 (post from k m) (W.addressed.1 (post from k m) sent_it) in p.0);
           before = z.before;
           after = z.after;
           are = z.are;
-          late = late (says_so hd) ans;
+          late = late (says_so A hd) ans;
           framed = ⊎_elim (λ here. inl here) (λ f. inr (⊎_elim {C = BeginsWith from k (frame_kind (response a r)) z.after}
               (λ b. subst (λ x. BeginsWith from k (frame_kind (response x r)) z.after) ans.2 b) (λ never. absurd never) f)) z.framed;
-          so = subst (λ h. says_of hd from h ans.1 r z.before) (let o = made_by (says_so hd) ans in o.head) z.so;
+          so = subst (λ h. says_of A hd from h ans.1 r z.before) (let o = made_by (says_so A hd) ans in o.head) z.so;
         }
 
     -- where naming grants a lock
-    pub granted : IsGranted hd from M s (let c = caller in let q = c.asked in q.asking) r
+    pub granted : IsGranted A hd from M s (let c = caller in let q = c.asked in q.asking) r
     granted =
         let ans = W.both.sent (post from k m) a r sent_it answer in
         let q = ans.3 in
         let z = q.made in record {
           ask = ans.1;
-          same = (let o = made_by (both_so hd M.seen.start) ans in o.same);
+          same = (let o = made_by (both_so A hd M.seen.start) ans in o.same);
           before = z.before;
           after = z.after;
           are = z.are;
-          late = late (both_so hd M.seen.start) ans;
-          so = subst (λ h. says_of hd from h ans.1 r z.before) (let o = made_by (both_so hd M.seen.start) ans in o.head) z.so.0;
+          late = late (both_so A hd M.seen.start) ans;
+          so = subst (λ h. says_of A hd from h ans.1 r z.before) (let o = made_by (both_so A hd M.seen.start) ans in o.head) z.so.0;
           differs = subst (λ h. says_differs M.seen.start from h ans.1 r z.before)
-              (let o = made_by (both_so hd M.seen.start) ans in o.head) z.so.1;
+              (let o = made_by (both_so A hd M.seen.start) ans in o.head) z.so.1;
         }
 
     -- where it finds something changed

@@ -48,7 +48,9 @@ use Rattle.arj_law_cause.proofs.rows.Holders.{begun_act, entry_upper, upper_act}
 use Rattle.arj_law_cause.proofs.rows.Meeting.{Meets, bind_meets, bind_writes, invoke_meets, invoke_runs, is_write, lock_by, meets_by}
 use Rattle.arj_journal.specs.ScriptForm.{HeaderInForm}
 use Rattle.arj_model.specs.CausePends.{may_store}
-use Rattle.arj_law_cause.specs.rows.{Early.IsEarly, Says.has_changed, Says.has_upper, Says.says_of, Says.may_be_pending, Tables.Inside}
+use Rattle.arj_model.specs.CausePends.{pends}
+use Rattle.arj_model.specs.Past.{Asked as AskedOf}
+use Rattle.arj_law_cause.specs.rows.{Early.IsEarly, Says.has_changed, Says.has_upper, Says.says_of, Tables.Inside}
 use Rattle.arj_law_parts.proofs.parts.LivesNamed.{all_found}
 use Terms.{IsEntryRow}
 use Terms.{HaveUpper}
@@ -296,9 +298,9 @@ module _ (hd : Header) (before : List Line) (event : ℕ) (early : (j : ℕ) →
   -- ---- a request that is served
 
   module _ (k : ℕ) (d : Disk) (t v : Parts) (from : ℕ) (h : Head) (r : Reply) (front : List Effect) (lines : List Line)
-      (shown : ShowsLocks k lines (Some v)) (holders : AreHolders v lines) (place : is_some t.naming ≡ (k == 1))
+      (A : List AskedOf) (shown : ShowsLocks k lines (Some v)) (holders : AreHolders v lines) (place : is_some t.naming ≡ (k == 1))
       (doubts : (u : Uid) → ((n : ℕ) (ls : List Line) → lines_behind n front ls ≡ ls) → is_prepared u d.store ≡ true →
-      may_be_pending k u lines ≡ true) where
+      pends A k u lines ≡ true) where
     -- what comes before the answer says nothing
     abbrev Unsaid : Type 0
     Unsaid = (n : ℕ) (ls : List Line) → lines_behind n front ls ≡ ls
@@ -319,11 +321,11 @@ module _ (hd : Header) (before : List Line) (event : ℕ) (early : (j : ℕ) →
 
     invoked_says : (x : ℕ) (b : Binding) (i : ℕ) (ends : List (Uid × End)) (o : Op) →
         is_again h (ask.Invoke x b i ends o) t.server ≡ false →
-        Sent (serve k d t from h (ask.Invoke x b i ends o)) → says_of hd k h (ask.Invoke x b i ends o) r lines
+        Sent (serve k d t from h (ask.Invoke x b i ends o)) → says_of A hd k h (ask.Invoke x b i ends o) r lines
     invoked_says x b i ends o new is = by (server.invoke k h x b i ends o t.server).reply refl is
       where
         says : (q : InvokedReply) → (server.invoke k h x b i ends o t.server).reply ≡ Some q → After x b i ends o ≡ v →
-            says_of hd k h (ask.Invoke x b i ends o) (Reply.Invoked q) lines
+            says_of A hd k h (ask.Invoke x b i ends o) (Reply.Invoked q) lines
         says (invoked.Answered a) at same =
             lock_by k (actor h.path) (object x) (op_mode o) lines (server_rows x (let w = After x b i ends o in w.server))
             (shown.server x ∙ ap (λ (z : Parts). server_rows x z.server) (sym same)) (invoke_runs k h x ends o a b i t.server new at)
@@ -339,18 +341,18 @@ module _ (hd : Header) (before : List Line) (event : ℕ) (early : (j : ℕ) →
 
         by : (f : Option InvokedReply) → (server.invoke k h x b i ends o t.server).reply ≡ f →
             Sent (sends_answer from h (After x b i ends o) (server.invoke k h x b i ends o t.server).outs (option_map Reply.Invoked f)) →
-            says_of hd k h (ask.Invoke x b i ends o) r lines
+            says_of A hd k h (ask.Invoke x b i ends o) r lines
         by None at e = let no_way : Void [] ≡ Took v (front ++ Send from (response (asked_by h) r) ∷ []) = e in absurd (cc no_way)
         by (Some q) at e = let z = replied (After x b i ends o) (server.invoke k h x b i ends o t.server).outs (Reply.Invoked q) e in
-            subst (λ y. says_of hd k h (ask.Invoke x b i ends o) y lines) (sym z.0) (says q at z.1)
+            subst (λ y. says_of A hd k h (ask.Invoke x b i ends o) y lines) (sym z.0) (says q at z.1)
 
     bound_says : (x : ℕ) (include : Bool) (avoid : Binding) → Sent (serve k d t from h (ask.Bind x include avoid)) →
-        says_of hd k h (ask.Bind x include avoid) r lines
+        says_of A hd k h (ask.Bind x include avoid) r lines
     bound_says x include avoid is = with_it t.naming refl is
       where
         named : (o : Naming) → t.naming ≡ Some o →
             Sent (served from h (with_naming t) Reply.Bound (naming.bind h.path x include avoid d.names o)) →
-            says_of hd k h (ask.Bind x include avoid) r lines
+            says_of A hd k h (ask.Bind x include avoid) r lines
         named o there e = by (naming.bind h.path x include avoid d.names o).reply refl e
           where
             one : (k == 1) ≡ true
@@ -366,7 +368,7 @@ module _ (hd : Header) (before : List Line) (event : ℕ) (early : (j : ℕ) →
                 (bind_writes h.path x q include avoid d.names o on at)
 
             says : (q : BoundReply) → (naming.bind h.path x include avoid d.names o).reply ≡ Some q → Bound x include avoid o ≡ v →
-                says_of hd k h (ask.Bind x include avoid) (Reply.Bound q) lines
+                says_of A hd k h (ask.Bind x include avoid) (Reply.Bound q) lines
             says (bound.Live b s i g stores) at same = bind_kind h.path x include avoid d.names o (bound.Live b s i g stores) at
             says (bound.Make b s g stores) at same = (
               bind_kind h.path x include avoid d.names o (bound.Make b s g stores) at,
@@ -389,48 +391,49 @@ module _ (hd : Header) (before : List Line) (event : ℕ) (early : (j : ℕ) →
             by : (f : Option BoundReply) → (naming.bind h.path x include avoid d.names o).reply ≡ f →
                 Sent (sends_answer from h (Bound x include avoid o) (naming.bind h.path x include avoid d.names o).outs
                 (option_map Reply.Bound f)) →
-                says_of hd k h (ask.Bind x include avoid) r lines
+                says_of A hd k h (ask.Bind x include avoid) r lines
             by None at e = let no_way : Void [] ≡ Took v (front ++ Send from (response (asked_by h) r) ∷ []) = e in absurd (cc no_way)
             by (Some q) at e =
                 let z = replied (Bound x include avoid o) (naming.bind h.path x include avoid d.names o).outs (Reply.Bound q) e in
-                subst (λ y. says_of hd k h (ask.Bind x include avoid) y lines) (sym z.0) (says q at z.1)
+                subst (λ y. says_of A hd k h (ask.Bind x include avoid) y lines) (sym z.0) (says q at z.1)
 
         with_it : (f : Option Naming) → t.naming ≡ f →
             Sent (if_naming (λ o. served from h (with_naming t) Reply.Bound (naming.bind h.path x include avoid d.names o)) f) →
-            says_of hd k h (ask.Bind x include avoid) r lines
+            says_of A hd k h (ask.Bind x include avoid) r lines
         with_it None there e = let no_way : Void [] ≡ Took v (front ++ Send from (response (asked_by h) r) ∷ []) = e in absurd (cc no_way)
         with_it (Some o) there e = named o there e
 
     loaded_says : (x : ℕ) → (Unsaid → HeaderInForm hd → may_store hd lines k x ≡ true) →
         ((u : Uid) → Unsaid → holder_of (object x) d.store ≡ Some u → HeaderInForm hd → IsEarly lines → has_changed lines u x ≡ true) →
-        Sent (serve k d t from h (ask.Load x)) → says_of hd k h (ask.Load x) r lines
+        Sent (serve k d t from h (ask.Load x)) → says_of A hd k h (ask.Load x) r lines
     loaded_says x stores changed is = by (holder_of (object x) d.store) refl is
       where
-        held : (o : Option ObjectState) → Sent (load_held from h t o) → says_of hd k h (ask.Load x) r lines
+        held : (o : Option ObjectState) → Sent (load_held from h t o) → says_of A hd k h (ask.Load x) r lines
         held None e = let no_way : Void (Do Look ∷ []) ≡ Took v (front ++ Send from (response (asked_by h) r) ∷ []) = e in absurd
             (cc no_way)
         held (Some s) e = let z = replied t (Do Look ∷ []) (Reply.Loaded (loaded.State s)) e in
-            subst (λ y. says_of hd k h (ask.Load x) y lines) (sym z.0) tt
+            subst (λ y. says_of A hd k h (ask.Load x) y lines) (sym z.0) tt
 
-        by : (o : Option Uid) → holder_of (object x) d.store ≡ o → Sent (load_by x d.store from h t o) → says_of hd k h (ask.Load x) r lines
+        by : (o : Option Uid) → holder_of (object x) d.store ≡ o → Sent (load_by x d.store from h t o) →
+            says_of A hd k h (ask.Load x) r lines
         by None at e = held (held_at (object x) d.store) e
         by (Some u) at e = let z = replied t [] (Reply.Loaded (loaded.InDoubt u)) e in
             let none : front ≡ [] = sym (init_is front (Send from (response (asked_by h) r))) ∙ ap init_of (sym (ap outs_in e)) in
-            subst (λ y. says_of hd k h (ask.Load x) y lines) (sym z.0)
+            subst (λ y. says_of A hd k h (ask.Load x) y lines) (sym z.0)
             (let quiet : Unsaid = (λ n ls. ap (λ es. lines_behind n es ls) none) in
             (doubts u quiet (holder_prepared (object x) u d.store at), (λ form. stores quiet form), changed u quiet at))
 
     prepared_says : (states : List ObjectState) → (Unsaid → (s : ObjectState) → In s states → (u : Uid) →
         holder_of s.uid d.store ≡ Some u → HeaderInForm hd → IsEarly lines →
         (has_changed lines (actor h.path) (let w = s.uid in w.num) && has_changed lines u (let w = s.uid in w.num)) ≡ true) →
-        Sent (serve k d t from h (ask.Prepare states)) → says_of hd k h (ask.Prepare states) r lines
+        Sent (serve k d t from h (ask.Prepare states)) → says_of A hd k h (ask.Prepare states) r lines
     prepared_says states changed is = by (is_prepared (actor h.path) d.store) (prepare_answer (actor h.path) states d.store) refl refl is
       where
         -- an answer that is no doubt
         other : (q : PreparedReply) → r ≡ Reply.Prepared q → ((y : ℕ) (u : Uid) → q ≡ prepared.InDoubt y u → ⊥) →
-            says_of hd k h (ask.Prepare states) r lines
-        other prepared.Yes its off = subst (λ z. says_of hd k h (ask.Prepare states) z lines) (sym its) tt
-        other (prepared.Old y n) its off = subst (λ z. says_of hd k h (ask.Prepare states) z lines) (sym its) tt
+            says_of A hd k h (ask.Prepare states) r lines
+        other prepared.Yes its off = subst (λ z. says_of A hd k h (ask.Prepare states) z lines) (sym its) tt
+        other (prepared.Old y n) its off = subst (λ z. says_of A hd k h (ask.Prepare states) z lines) (sym its) tt
         other (prepared.InDoubt y u) its off = absurd (off y u refl)
 
         reply_of : (q : PreparedReply) (es : List Effect) → Took t (es ++ Send from (response (asked_by h) (Reply.Prepared q)) ∷ []) ≡
@@ -439,7 +442,7 @@ module _ (hd : Header) (before : List Line) (event : ℕ) (early : (j : ℕ) →
 
         by : (b : Bool) (a : Prep) → is_prepared (actor h.path) d.store ≡ b → prepare_answer (actor h.path) states d.store ≡ a →
             Sent (cond b (sends_answer from h t [] (Some (Reply.Prepared prepared.Yes))) (prepare_by k states from h t a)) →
-            says_of hd k h (ask.Prepare states) r lines
+            says_of A hd k h (ask.Prepare states) r lines
         by true a held at f = other prepared.Yes (reply_of prepared.Yes [] f) (λ y u z. cc z)
         by false Ready held at f = other prepared.Yes (reply_of prepared.Yes
             (Do Look ∷ Do (Prepare role.Store (actor h.path) states) ∷ Say (body.Prepared k (actor h.path) role.Store) ∷ []) f)
@@ -448,7 +451,7 @@ module _ (hd : Header) (before : List Line) (event : ℕ) (early : (j : ℕ) →
             let no_way : Void (Do Look ∷ []) ≡ Took v (front ++ Send from (response (asked_by h) r) ∷ []) = f in absurd (cc no_way)
         by false (Old u n) held at f = other (prepared.Old (let z = u in z.num) n) (reply_of (prepared.Old (let z = u in z.num) n)
             (Do Look ∷ []) f) (λ y w z. cc z)
-        by false (InDoubt u w) held at f = subst (λ z. says_of hd k h (ask.Prepare states) z lines)
+        by false (InDoubt u w) held at f = subst (λ z. says_of A hd k h (ask.Prepare states) z lines)
             (sym (reply_of (prepared.InDoubt (let z = u in z.num) w) (Do Look ∷ []) f)) (
               apart,
               doubts w quiet (holder_prepared u w d.store found.3),
@@ -479,7 +482,7 @@ module _ (hd : Header) (before : List Line) (event : ℕ) (early : (j : ℕ) →
         ((states : List ObjectState) → a ≡ ask.Prepare states → Unsaid → (s : ObjectState) → In s states → (u : Uid) →
         holder_of s.uid d.store ≡ Some u → HeaderInForm hd → IsEarly lines →
         (has_changed lines (actor h.path) (let w = s.uid in w.num) && has_changed lines u (let w = s.uid in w.num)) ≡ true) →
-        Sent (serve k d t from h a) → says_of hd k h a r lines
+        Sent (serve k d t from h a) → says_of A hd k h a r lines
     served_says (ask.Invoke x b i ends o) new stores changed prepares is = invoked_says x b i ends o new is
     served_says (ask.Bind x include avoid) new stores changed prepares is = bound_says x include avoid is
     served_says (ask.Load x) new stores changed prepares is = loaded_says x (stores x refl) (λ u. changed x u refl) is

@@ -2,7 +2,8 @@
 use Rattle.arj_law_parts.proofs.Words
 use Words.{◌≡◌, ◌∙◌, ◌+◌, ◌++◌, ℕ, Bool, true, false, cond, if◌then◌else◌, List, [], ◌∷◌, length, Option, Some, None, refl, sym, ap}
 use Words.{Arm, Event, arith, append-nil, filter, at_place, Body, Header, Label, Line, Node, Start, IsFormed, World, counted}
-use Words.{append_assoc, first_reason, giving, subst}
+use Words.{append_assoc, first_reason, giving, subst, ◌==◌, ◌&&◌, ◌||◌, ◌⊎◌, ⊎_elim, In, inl, inr, and_parts, or_cases, eqb-true}
+use Words.{list_any-append}
 use Words.{happens, is_given, lacks_labels, limited, no_labels, node_in, node_of, numbered, reasons, run_event, run_unless, world_from}
 use Words.{Move, moved}
 use Words.{Disk, Input, Parts}
@@ -31,6 +32,8 @@ use Rattle.arj_model.specs.CauseSpans.{here_at}
 use Rattle.arj_model.specs.Actions.{acts, path}
 use Rattle.arj_model.specs.Follows.{Runs}
 use Words.{◌≤◌, ◌<◌, AllByRecursion}
+use Rattle.arj_model.specs.CausePends.{is_crash, is_crash_at}
+use Rattle.arj_law_cause.proofs.rows.Worlds.{Fits}
 use Rattle.arj_model.specs.Past.{Asked as AskedOf, Along, Past, asked_of, at_start, block, is_refused, label_of, next}
 use Rattle.arj_promise.specs.Runs.{IsStoppedInForm, journal_by}
 use Rattle.arj_law_cause.proofs.rows.{Accepting.asked_same, Accepting.refused_asks, Accepting.same_refusal, Asks.AreSameAsks}
@@ -62,6 +65,66 @@ same_event (Some a) w g = by (at_place a.0 w.nodes)
     by : (n : Option Node) → (let q = asked_at w.header a.1 n g in q.event) ≡ g.event
     by None = refl
     by (Some n) = refl
+
+-- ---- which events are crashes
+
+-- of the events that were run these have no more crashes
+abbrev pub Extends : List AskedOf → Past → Type 0
+Extends A p = (e : ℕ) → e ≤ p.count → (n : ℕ) → is_crash_at A n e ≡ true → is_crash_at p.accepted n e ≡ true
+
+-- accepted events have their numbers
+abbrev pub AreNumbered : Past → Type 0
+AreNumbered p = (k : AskedOf) → In k p.accepted → k.number ≤ p.count
+
+extends_it : (p : Past) → Extends p.accepted p
+extends_it p e few n is = is
+
+crash_on : (n e : ℕ) (xs ys : List AskedOf) → is_crash_at (xs ++ ys) n e ≡ is_crash_at xs n e || is_crash_at ys n e
+crash_on n e xs ys = list_any-append (λ (k : AskedOf). (k.number == e) && is_crash n k.event) xs ys
+
+-- a crash has the number of its event
+crash_number : (n e c : ℕ) (xs : List AskedOf) → ((k : AskedOf) → In k xs → k.number ≤ c) → is_crash_at xs n e ≡ true → e ≤ c
+crash_number n e c [] all is = absurd (cc is)
+crash_number n e c (x ∷ xs) all is = ⊎_elim {C = e ≤ c}
+    (λ here. let same = eqb-true x.number e (and_parts (x.number == e) (is_crash n x.event) here).0 in let few = all x (inl refl) in
+    omega (arith, same, few))
+    (λ later. crash_number n e c xs (λ k i. all k (inr i)) later)
+    (or_cases ((x.number == e) && is_crash n x.event) (is_crash_at xs n e) is)
+
+next_crash : (n e : ℕ) (p : Past) (v : Event) (bodies : List Body) → is_crash_at (next p v bodies).accepted n e ≡ true →
+    (is_crash_at p.accepted n e ≡ true) ⊎ ((p.count + 1 ≡ e) × (is_crash n v ≡ true))
+next_crash n e p v bodies = by (is_refused bodies)
+  where
+    by : (b : Bool) → is_crash_at (if b then p.accepted else p.accepted ++ asked_of p v ∷ []) n e ≡ true →
+        (is_crash_at p.accepted n e ≡ true) ⊎ ((p.count + 1 ≡ e) × (is_crash n v ≡ true))
+    by true is = inl is
+    by false is = ⊎_elim {C = (is_crash_at p.accepted n e ≡ true) ⊎ ((p.count + 1 ≡ e) × (is_crash n v ≡ true))} (λ old. inl old)
+        (λ new. let q = and_parts (p.count + 1 == e) (is_crash n v) (one ((p.count + 1 == e) && is_crash n v) new) in
+        inr (eqb-true (p.count + 1) e q.0, q.1))
+        (or_cases (is_crash_at p.accepted n e) (is_crash_at (asked_of p v ∷ []) n e) (sym (crash_on n e p.accepted
+        (asked_of p v ∷ [])) ∙ is))
+      where
+        one : (b : Bool) → (b || false) ≡ true → b ≡ true
+        one true is = refl
+        one false is = is
+
+extends_less : (A : List AskedOf) (p : Past) (v : Event) (bodies : List Body) → Extends A (next p v bodies) → Extends A p
+extends_less A p v bodies more e few n is = ⊎_elim {C = is_crash_at p.accepted n e ≡ true} (λ old. old)
+    (λ new. let same = new.0 in absurd (omega (arith, few, same))) (next_crash n e p v bodies (more e (omega (arith, few)) n is))
+
+extends_fits : (hd : Header) (A : List AskedOf) (p : Past) (v : Event) (bodies : List Body) → AreNumbered p → Extends A (next p v bodies) →
+    Fits hd A (p.count + 1) v
+extends_fits hd A p v bodies numbers more n is = ⊎_elim {C = is_crash n v ≡ true}
+    (λ old. let few = crash_number n (p.count + 1) p.count p.accepted numbers old in absurd (omega (arith, few)))
+    (λ new. new.1) (next_crash n (p.count + 1) p v bodies (more (p.count + 1) (same (p.count + 1)) n is))
+  where
+    same : (m : ℕ) → m ≤ m
+    same m = omega arith
+
+numbers_of : (c : ℕ) (xs : List AskedOf) → AllByRecursion (λ (a : AskedOf). a.number ≤ c) xs → (k : AskedOf) → In k xs → k.number ≤ c
+numbers_of c [] all k there = absurd there
+numbers_of c (x ∷ xs) all k (inl same) = subst (λ (a : AskedOf). a.number ≤ c) same all.0
+numbers_of c (x ∷ xs) all k (inr there) = numbers_of c xs all.1 k there
 
 -- its answers fit, where the journal is in form by then
 abbrev EarlyStep : Header → Past → Event → List Body → Type 0
@@ -137,16 +200,17 @@ module _ (hd : Header) (form : HeaderInForm hd) (st : Start) where
   tied_steps = tied_step hd Knows knows_steps (λ M h. paths_of_wide M h.0)
 
   -- between events, and inside of one
-  abbrev Between : Moment → Type 0
-  Between M = ((Tied M × AnswersAreMade (both_so hd st) M) × LoadsAreLocked M) × AskedPaths M
+  abbrev Between : List AskedOf → Moment → Type 0
+  Between A M = ((Tied M × AnswersAreMade (both_so A hd st) M) × LoadsAreLocked M) × AskedPaths M
 
-  abbrev Inner : List Line → ℕ → Moment → Type 0
-  Inner before event M = (((InEvent hd before event M × Tied M) × AnswersAreMade (both_so hd st) M) × LoadsAreLocked M)
-      × Lined.Lined hd st before event M
+  abbrev Inner : List AskedOf → List Line → ℕ → Moment → Type 0
+  Inner A before event M = (((InEvent A hd before event M × Tied M) × AnswersAreMade (both_so A hd st) M) × LoadsAreLocked M)
+      × Lined.Lined A hd st before event M
 
-  works : (before : List Line) (event k : ℕ) (d : Disk) (t : Parts) (M : Moment) →
-      (InEvent hd before event (up k d t M) × Tied (up k d t M)) × AnswersAreMade (both_so hd st) (up k d t M) → Works hd k d t M
-  works before event k d t M h = record {
+  works : (A : List AskedOf) (before : List Line) (event k : ℕ) (d : Disk) (t : Parts) (M : Moment) →
+      (InEvent A hd before event (up k d t M) × Tied (up k d t M)) × AnswersAreMade (both_so A hd st) (up k d t M) →
+      Works A hd k d t M
+  works A before event k d t M h = record {
     paths = paths_of_wide (up k d t M) h.0.1.0.0;
     tied = h.0.1.1;
     known = h.0.0.0.0.0.0;
@@ -156,25 +220,25 @@ module _ (hd : Header) (form : HeaderInForm hd) (st : Start) where
     full = h.0.1.0.1.1.1.0.1;
     bindings = h.0.1.0.1.1.1.1.0.1;
     differs = subst (λ z. AnswersAreMade (differs_so z) (up k d t M)) (sym h.0.1.0.1.1.1.1.0.0) h.0.1.0.1.1.1.1.1;
-    both = subst (λ z. AnswersAreMade (both_so hd z) (up k d t M)) (sym h.0.1.0.1.1.1.1.0.0) h.1;
+    both = subst (λ z. AnswersAreMade (both_so A hd z) (up k d t M)) (sym h.0.1.0.1.1.1.1.0.0) h.1;
     reached = (h.0.0.0.1.0.0, h.0.0.0.1.0.1, h.0.0.0.1.0.2.1);
     form = form;
   }
 
-  pub its_beside : Beside hd Between Inner
-  its_beside = record {
+  pub its_beside : (A : List AskedOf) → Beside A hd (Between A) (Inner A)
+  its_beside A = record {
     inner = λ before event early.
-        let both = steps_both hd (InEvent hd before event) Tied (event_step hd before event early) tied_steps in
-        let told = answers_step hd (both_so hd st) (λ M. InEvent hd before event M × Tied M) both (λ M h. h.0.0.0.0.0)
+        let both = steps_both hd (InEvent A hd before event) Tied (event_step A hd before event early) tied_steps in
+        let told = answers_step hd (both_so A hd st) (λ M. InEvent A hd before event M × Tied M) both (λ M h. h.0.0.0.0.0)
         (λ k d t v from m asks a r front M g there other meant asking new is. (
-          Running.tells hd before event early k d t v from m asks a r front M g.0.0 there other meant asking new is,
+          Running.tells A hd before event early k d t v from m asks a r front M g.0.0 there other meant asking new is,
           tells_differs st k d t v from m asks a r front M g.1.0.1.1.1.1.0 there other meant asking new is,
         )) in
-        Lined.lined_step hd st before event
-        (λ M. ((InEvent hd before event M × Tied M) × AnswersAreMade (both_so hd st) M) × LoadsAreLocked M)
-        (locked_step hd (λ M. (InEvent hd before event M × Tied M) × AnswersAreMade (both_so hd st) M) told
-        (λ k d t M h. works before event k d t M h))
-        (λ k d t M h. works before event k d t M h.0) (λ k d t M h. h.1) (λ k d t M h. h.0.0.1.0.1.1.1.1.0.0);
+        Lined.lined_step A hd st before event
+        (λ M. ((InEvent A hd before event M × Tied M) × AnswersAreMade (both_so A hd st) M) × LoadsAreLocked M)
+        (locked_step A hd (λ M. (InEvent A hd before event M × Tied M) × AnswersAreMade (both_so A hd st) M) told
+        (λ k d t M h. works A before event k d t M h))
+        (λ k d t M h. works A before event k d t M h.0) (λ k d t M h. h.1) (λ k d t M h. h.0.0.1.0.1.1.1.1.0.0);
     knows = λ before event M h. h.0.0.0.0;
     opens = λ e M first number h. (
       (
@@ -195,7 +259,7 @@ module _ (hd : Header) (form : HeaderInForm hd) (st : Start) where
             ),
             (let t = h.0.0.0.1 in record { tied = t.tied; new = t.new }),
           ),
-          made_opens (both_so hd st) e M first number h.0.0.1,
+          made_opens (both_so A hd st) e M first number h.0.0.1,
         ),
         h.0.1,
       ),
@@ -231,7 +295,7 @@ module _ (hd : Header) (form : HeaderInForm hd) (st : Start) where
             ),
             (let t = h.0.0.0.1.1 in record { tied = t.tied; new = t.new }),
           ),
-          made_closes (both_so hd st) bodies M number lines h.0.0.1,
+          made_closes (both_so A hd st) bodies M number lines h.0.0.1,
         ),
         h.0.1,
       ),
@@ -241,7 +305,7 @@ module _ (hd : Header) (form : HeaderInForm hd) (st : Start) where
       (
         (
           tied_steps.quiet (body.Limit which.Labels ∷ []) M refl h.0.0.0,
-          made_later (both_so hd st) M (said (body.Limit which.Labels ∷ []) M) (record {
+          made_later (both_so A hd st) M (said (body.Limit which.Labels ∷ []) M) (record {
             more = numbered M.past.number (body.Limit which.Labels ∷ []);
             lines = refl;
             askings = refl;
@@ -262,7 +326,7 @@ module _ (hd : Header) (form : HeaderInForm hd) (st : Start) where
   pub record Stands (p : Past) (w : World) : Type 0 where
     pub base : refusing.Stands hd form p w
     pub history : History
-    pub so : StandsSo hd Between Inner its_beside history w
+    pub so : (A : List AskedOf) → Extends A p → StandsSo A hd (Between A) (Inner A) (its_beside A) history w
     pub start : p.start ≡ st
     pub asks : AreSameAsks p.accepted (accepted_of history.askings)
     pub rises : AreCounted p
@@ -278,8 +342,8 @@ module _ (hd : Header) (form : HeaderInForm hd) (st : Start) where
     abbrev v : World
     v = record w { arms = m.falls }
 
-    armed : StandsSo hd Between Inner its_beside s.history v
-    armed = Running.armed_so hd Between Inner its_beside s.history w m.falls s.so
+    armed : (A : List AskedOf) → Extends A p → StandsSo A hd (Between A) (Inner A) (its_beside A) s.history v
+    armed A more = Running.armed_so A hd (Between A) (Inner A) (its_beside A) s.history w m.falls (s.so A more)
 
     lines_are : p.lines ≡ w.lines
     lines_are = let b = s.base in let f = b.base in f.lines
@@ -288,10 +352,10 @@ module _ (hd : Header) (form : HeaderInForm hd) (st : Start) where
     count_is = let b = s.base in let f = b.base in f.count
 
     run_lines : (let r = s.history.run in r.lines) ≡ w.lines
-    run_lines = let h = s.so in let o = h.holds in o.lines on
+    run_lines = let h = s.so p.accepted (extends_it p) in let o = h.holds in o.lines on
 
     run_count : (let r = s.history.run in r.count) ≡ w.event
-    run_count = let h = s.so in let o = h.holds in sym o.count ∙ (let n = o.now in n.number)
+    run_count = let h = s.so p.accepted (extends_it p) in let o = h.holds in sym o.count ∙ (let n = o.now in n.number)
 
     -- what was asked is the same in both
     asked_is : asked_of p e ≡ asked_of s.history.run e
@@ -407,8 +471,9 @@ module _ (hd : Header) (form : HeaderInForm hd) (st : Start) where
             ≡ (limited (happens e arm (counted v))).lines →
             EarlyStep hd p e bodies
         run_fits lines early =
-            let H = Running.happened_at hd Between Inner its_beside s.history v armed e
-            arm free on in
+            let A = (next p e bodies).accepted in
+            let H = Running.happened_at A hd (Between A) (Inner A) (its_beside A) s.history v
+            (armed A (extends_less A p e bodies (extends_it (next p e bodies)))) e arm free on in
             let L = H.holds.1 in
             let wrote : bodies ≡ L.wrote = same_bodies (w.event + 1) bodies L.wrote w.lines (lines ∙ L.lines) in
             (λ i. are_so answer_fits (record {
@@ -421,13 +486,16 @@ module _ (hd : Header) (form : HeaderInForm hd) (st : Start) where
               first = length (lines_are i);
               lines = lines_are i;
             }) (wrote i)) ∙ L.fit (subst IsSettled ((λ i. lines_are i ++ block (count_is i + 1) bodies) ∙ lines) early)
-            (next p e bodies).accepted (accepted_same, (counted_next p e bodies s.rises).rising)
+            (next p e bodies).accepted ((accepted_same, (counted_next p e bodies s.rises).rising), refl)
 
       stands_then : refusing.Stands hd form (next p e bodies) (moved m w) → Agrees → Stands (next p e bodies) (moved m w)
       stands_then base agrees = record {
         base = base;
         history = past_event m.asked v s.history;
-        so = Running.move_so hd Between Inner its_beside m s.history w s.so;
+        so = λ A more. Running.move_so A hd (Between A) (Inner A) (its_beside A) m s.history w
+            (λ running. subst (λ n. Fits hd A n e) (ap (λ n. n + 1) count_is)
+            (extends_fits hd A p e bodies (numbers_of p.count p.accepted (let c = s.rises in c.low)) more))
+            (s.so A (extends_less A p e bodies more));
         start = s.start;
         asks = agrees;
         rises = counted_next p e bodies s.rises;
@@ -450,8 +518,8 @@ module _ (hd : Header) (form : HeaderInForm hd) (st : Start) where
 
   -- ---- as a run begins
 
-  first_between : IsFormed hd st → Between (look (no_history st) [] (world_from hd st))
-  first_between formed = (
+  first_between : (A : List AskedOf) → IsFormed hd st → Between A (look (no_history st) [] (world_from hd st))
+  first_between A formed = (
     (
       (
         (
@@ -467,7 +535,7 @@ module _ (hd : Header) (form : HeaderInForm hd) (st : Start) where
           ),
           (let t = first_tied hd st in record { tied = t.tied; new = t.new }),
         ),
-        first_made hd (both_so hd st) st formed,
+        first_made hd (both_so A hd st) st formed,
       ),
       first_locked hd st,
     ),
@@ -478,7 +546,7 @@ module _ (hd : Header) (form : HeaderInForm hd) (st : Start) where
   first_stands formed = record {
     base = refusing.first_stands hd form st formed;
     history = no_history st;
-    so = Running.first_so hd Between Inner its_beside st formed (first_between formed);
+    so = λ A more. Running.first_so A hd (Between A) (Inner A) (its_beside A) st formed (first_between A formed);
     start = refl;
     asks = refl;
     rises = record { rising = tt; low = tt };

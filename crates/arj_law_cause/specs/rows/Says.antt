@@ -6,8 +6,9 @@ use Rattle.arj_class.specs.Table.{op_mode}
 use Rattle.arj_journal.specs.ScriptForm.{HeaderInForm}
 use Rattle.arj_model.specs.Actions.{Act, acts}
 use Rattle.arj_model.specs.CauseAnswers.{has_lock, meets}
-use Rattle.arj_model.specs.CausePends.{called_at, changes, is_prepare, may_store, pends_step}
+use Rattle.arj_model.specs.CausePends.{called_at, changes, is_prepare, may_store, pends, pends_step}
 use Rattle.arj_model.specs.CauseSpans.{act_by, holds_in}
+use Rattle.arj_model.specs.Past.{Asked as Accepted}
 use Rattle.arj_protocol.specs.Ask.{Reply, actor, top_of, top_path}
 use Rattle.arj_protocol.specs.Tree.{is_nested}
 use Rattle.arj_protocol.specs.Words.{Ask, Body, Head, Header, Line, Mode, Uid, uids_of}
@@ -55,36 +56,34 @@ may_be_pending n u lines = holds_in (λ m. may_pend n u (take m.at lines) false 
 abbrev pub has_changed : List Line → Uid → ℕ → Bool
 has_changed lines u x = holds_in (λ a. changes lines a.id x) (act_by lines u)
 
--- so it may of a state of this object, which the action changed, and of which the node may be a store
-abbrev pub may_be_in_doubt : Header → ℕ → Uid → ℕ → List Line → Bool
-may_be_in_doubt header n u x lines = has_changed lines u x && (may_store header lines n x && may_be_pending n u lines)
-
 -- A conflict: at a server the call, and at naming its top, meets the row of this holder in this mode, an action that began, at naming no
 -- nested one. Where a server answers with what the operation gives, the action has its lock; naming names a binding to no include; and
 -- where it lets one go on, or makes a binding, the top has the entry's write lock. Where a store is in doubt, a state of whom it names may
--- be prepared there; and if the header is in form, the node may be a store of the object, and if the journal is so too, that one changed it.
+-- be prepared there, where these events were accepted; and if the header is in form, the node may be a store of the object, and if the
+-- journal is so too, that one changed it.
 -- Where a store refuses a Prepare for such a state, it is of another action, and then both have changed the object.
-abbrev pub says_of : Header → ℕ → Head → Ask → Reply → List Line → Type 0
-says_of hd n h (ask.Invoke x b i ends o) (Reply.Invoked (invoked.Conflict u m)) before =
+abbrev pub says_of : List Accepted → Header → ℕ → Head → Ask → Reply → List Line → Type 0
+says_of accepted hd n h (ask.Invoke x b i ends o) (Reply.Invoked (invoked.Conflict u m)) before =
     (meets n (uids_of h.path) (object x) (op_mode o) u m before ≡ true) × (has_act (acts before) u ≡ true)
-says_of hd n h (ask.Invoke x b i ends o) (Reply.Invoked (invoked.Answered a)) before =
+says_of accepted hd n h (ask.Invoke x b i ends o) (Reply.Invoked (invoked.Answered a)) before =
     has_lock n (actor h.path) (object x) (op_mode o) before ≡ true
-says_of hd n h (ask.Bind x include avoid) (Reply.Bound (bound.Conflict u m)) before =
+says_of accepted hd n h (ask.Bind x include avoid) (Reply.Bound (bound.Conflict u m)) before =
     (n ≡ 1) × (list_any (λ asked. meets 1 (top_path h.path) (entry x) asked u m before) (entry_modes include) ≡ true)
     × (has_upper (acts before) u ≡ true)
-says_of hd n h (ask.Bind x include avoid) (Reply.Bound (bound.Live b server i g stores)) before = include ≡ false
-says_of hd n h (ask.Bind x include avoid) (Reply.Bound (bound.Make b server g stores)) before =
+says_of accepted hd n h (ask.Bind x include avoid) (Reply.Bound (bound.Live b server i g stores)) before = include ≡ false
+says_of accepted hd n h (ask.Bind x include avoid) (Reply.Bound (bound.Make b server g stores)) before =
     (include ≡ false) × (has_lock 1 (top_of h.path) (entry x) mode.Write before ≡ true)
-says_of hd n h (ask.Bind x include avoid) (Reply.Bound (bound.Write g stores)) before =
+says_of accepted hd n h (ask.Bind x include avoid) (Reply.Bound (bound.Write g stores)) before =
     has_lock 1 (top_of h.path) (entry x) mode.Write before ≡ true
-says_of hd n h (ask.Load x) (Reply.Loaded (loaded.InDoubt u)) before =
-    (may_be_pending n u before ≡ true) × (HeaderInForm hd → may_store hd before n x ≡ true)
+says_of accepted hd n h (ask.Load x) (Reply.Loaded (loaded.InDoubt u)) before =
+    (pends accepted n u before ≡ true) × (HeaderInForm hd → may_store hd before n x ≡ true)
     × (HeaderInForm hd → IsEarly before → has_changed before u x ≡ true)
-says_of hd n h (ask.Prepare states) (Reply.Prepared (prepared.InDoubt y u)) before =
-    (uid_eq u (actor h.path) ≡ false) × (may_be_pending n u before ≡ true)
+says_of accepted hd n h (ask.Prepare states) (Reply.Prepared (prepared.InDoubt y u)) before =
+    (uid_eq u (actor h.path) ≡ false) × (pends accepted n u before ≡ true)
     × (HeaderInForm hd → IsEarly before → (has_changed before (actor h.path) y && has_changed before u y) ≡ true)
-says_of hd n h a r before = ⊤
+says_of accepted hd n h a r before = ⊤
 
 -- so it is of an answer
-abbrev pub says_so : Header → Saying
-says_so hd a before = says_of hd (let z = a in z.from) (let z = a in z.head) (let z = a in z.ask) (let z = a in z.reply) before
+abbrev pub says_so : List Accepted → Header → Saying
+says_so accepted hd a before =
+    says_of accepted hd (let z = a in z.from) (let z = a in z.head) (let z = a in z.ask) (let z = a in z.reply) before

@@ -7,4 +7,4 @@ pub returns-clause-runs : goal.returns-clause-runs
 returns-clause-runs c = runs_meet
 
 pub returns-clause-span : goal.returns-clause-span
-returns-clause-span c = (λ hd. taken_in_span (says_so hd))
+returns-clause-span c = (λ accepted hd. taken_in_span (says_so accepted hd))
