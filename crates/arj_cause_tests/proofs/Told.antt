@@ -5,6 +5,7 @@ use Rattle.std.proofs.Common.{arith}
 use Rattle.arj_base.specs.declared.mode.Mode.TheVariants.{Exclude, Read, Write}
 use Rattle.arj_base.specs.declared.mode.End.TheVariants.{Commit}
 use Rattle.arj_class.specs.declared.op.Op.TheVariants as op
+use Rattle.arj_class.specs.declared.value.Value.TheVariants as value
 use Rattle.arj_journal.specs.declared.body.Body.{Body}
 use Rattle.arj_journal.specs.declared.body.Body.TheVariants as body
 use Rattle.arj_journal.specs.declared.body.Cause.TheVariants as cause
@@ -16,21 +17,23 @@ use Rattle.arj_journal.specs.declared.event.Event.TheVariants as event
 use Rattle.arj_model.specs.CauseSpans.{Here}
 use Rattle.arj_model.specs.Past.{Past, nothing_yet}
 use Rattle.arj_law_cause.specs.form.Form.{AreInForm}
-use Rattle.arj_law_cause.specs.kinds.Kinds.{is_active, is_armed, is_bare_abort, is_bound, is_commit_done, is_committed, is_dropped, is_excluded}
+use Rattle.arj_law_cause.specs.kinds.Kinds.{is_active, is_armed, is_bare_abort, is_bound, is_commit_done, is_committed, is_dropped}
+use Rattle.arj_law_cause.specs.kinds.Kinds.{is_excluded}
 use Rattle.arj_law_cause.specs.kinds.Kinds.{is_found, is_got, is_granted_entry, is_granted_object, is_halted, is_limit, is_listed_abort}
 use Rattle.arj_law_cause.specs.kinds.Kinds.{is_lock_lowered, is_lost_commit, is_met_abort, is_old_abort, is_opening, is_prepared}
 use Rattle.arj_law_cause.specs.kinds.Kinds.{is_quiet, is_sent}
 use Rattle.arj_law_cause.specs.kinds.Kinds.{is_up, is_void}
 use Rattle.arj_law_cause.specs.kinds.Rows.{row, tested}
-use Rattle.arj_law_cause.specs.kinds.Tests.{is_committed_so, is_excluded_so, is_old_so}
+use Rattle.arj_law_cause.specs.kinds.Tests.{is_committed_so, is_old_so}
 use Rattle.arj_law_cause.specs.rows.Lines.{answer_fits}
 use Rattle.arj_law_cause.specs.waits.replies.Ends.{RepliesStep}
-use Rattle.arj_cause_tests.proofs.Words.{Run, after, b, end_from, instead, l, of_other_event, run, u, without}
+use Rattle.arj_cause_tests.proofs.Words.{Run, after, b, end_from, instead, l, nodes, object_line, of_other_event, run, u, without}
 use Rattle.arj_cause_tests.proofs.Worked.{conflict, exclusion, inclusion, lost_lock, naming_stopped, nested_abort, no_store_left}
 use Rattle.arj_cause_tests.proofs.Worked.{rebinding}
 use Rattle.arj_cause_tests.proofs.Worked.{stop_at_decision_done}
 use Rattle.arj_cause_tests.proofs.Rare.{aborted_conflict, aborted_lost, aborted_old, changed_bind_naming}
 use Rattle.arj_cause_tests.proofs.Rarer.{changed_bind_server, changed_inc_naming, changed_inc_server, conflict_pending, conflict_unsaid}
+use Rattle.arj_cause_tests.proofs.Rarer.{excluded_pending}
 use Rattle.arj_cause_tests.proofs.WrongEvents.{begins, two_nodes}
 use Rattle.arj_cause_tests.proofs.WrongShows.{failing_from}
 
@@ -336,17 +339,42 @@ prepared_elsewhere : failing_of is_prepared (instead 23 (body.Prepared 2 (u 1 1 
 prepared_elsewhere = refl
 
 -- `excluded`: what no line says was written, where its commit wasn't called, of another object, and behind its commit
-excluded_unwritten : failing (tested is_excluded_so (λ h. is_excluded)) (without 11 exclusion) ≡ 20 ∷ []
+excluded_unwritten : failing_of is_excluded (without 11 exclusion) ≡ 20 ∷ []
 excluded_unwritten = refl
 
-excluded_uncalled : failing (tested is_excluded_so (λ h. is_excluded)) (without 12 exclusion) ≡ 20 ∷ []
+excluded_uncalled : failing_of is_excluded (without 12 exclusion) ≡ 20 ∷ []
 excluded_uncalled = refl
 
-excluded_another : failing (tested is_excluded_so (λ h. is_excluded)) (instead 21 (body.Excluded (l 65) 2 3) exclusion) ≡ 21 ∷ []
+excluded_another : failing_of is_excluded (instead 21 (body.Excluded (l 65) 2 3) exclusion) ≡ 21 ∷ []
 excluded_another = refl
 
-excluded_late : failing (tested is_excluded_so (λ h. is_excluded)) (after 24 (body.Excluded (l 65) 1 2 ∷ []) exclusion) ≡ 25 ∷ []
+excluded_late : failing_of is_excluded (after 24 (body.Excluded (l 65) 1 2 ∷ []) exclusion) ≡ 25 ∷ []
 excluded_late = refl
+
+-- it has prepared, was given up by nobody, or was sent nothing to prepare
+excluded_prepared : failing_of is_excluded (instead 21 (body.Excluded (l 65) 1 2) exclusion) ≡ 21 ∷ []
+excluded_prepared = refl
+
+excluded_kept : failing_of is_excluded (without 20 exclusion) ≡ 20 ∷ []
+excluded_kept = refl
+
+excluded_unsent : failing_of is_excluded (instead 14 (body.Sent 4 1 3 frame.Vote) exclusion) ≡ 21 ∷ []
+excluded_unsent = refl
+
+-- it had nothing of another action in doubt, answered somebody else, had nothing to doubt, or isn't a store of the object
+excluded_undoubted : failing_of is_excluded (instead 71 (body.Excluded (l 85) 1 3) excluded_pending) ≡ 71 ∷ []
+excluded_undoubted = refl
+
+excluded_unanswered : failing_of is_excluded (instead 66 (body.Sent 22 4 1 frame.Prepared) excluded_pending)
+    ≡ 71 ∷ []
+excluded_unanswered = refl
+
+excluded_unpending : failing_of is_excluded (without 43 excluded_pending) ≡ 70 ∷ []
+excluded_unpending = refl
+
+excluded_unstored : failing_of is_excluded
+    (run (nodes 4 (object_line 1 (value.Counter 0) (2 ∷ []) (3 ∷ []) ∷ [])) (let r = excluded_pending in r.wrote)) ≡ 71 ∷ []
+excluded_unstored = refl
 
 -- `done`: it isn't committed
 done : failing_of is_commit_done (after 17 (body.Done 2 (u 1 1 1) role.Store Commit ∷ []) exclusion) ≡ 18 ∷ []

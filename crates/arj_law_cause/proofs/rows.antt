@@ -5,9 +5,9 @@
 -- there or asked for (`Pending`, `Asked`), and is pending there: its work comes with its line (`Pends`, `Fair`), so that is so where more
 -- is known of whoever is asked (`Watching`, `Watches`): a node
 -- that stops before the line takes a Prepare then, by the lines of its step (`Stops`), in each step of a node (`Stepped`) and each event
--- (`Worlds`). It is at one that may be a store of it, as whoever loads asks (`Stores`), and of an action that has changed it
--- (`Changing`), and whoever answers says what the table has (`Telling`). Event by event so it is in whole runs (`Running`), and the first
--- conflicts of tables and of nodes are the same at each moment (`Agreeing`).
+-- (`Worlds`). It is at one that may be a store of it, as whoever loads asks (`Stores`, and of what roots keep and plans have `Lists`), and
+-- of an action that has changed it (`Changing`), and whoever answers says what the table has (`Telling`). Event by event so it is in whole
+-- runs (`Running`), and the first conflicts of tables and of nodes are the same at each moment (`Agreeing`).
 --
 -- A call ends at its coordinator by the answer that it takes, or given up (`Ending`). There the action waits for what was asked
 -- last, and the answer was made in its span (`Taking`), under its path (`Paths`), where the journal's row finds it (`Spans`, `Rows`); what
@@ -31,6 +31,7 @@ pub mod Watching
 pub mod Watches
 pub mod Stepped
 pub mod Worlds
+pub mod Lists
 pub mod Stores
 pub mod Changing
 pub mod Running

@@ -1,7 +1,7 @@
 // Rows of causes: lines of the world, and what nodes do.
 ghost use Rattle.arj_law_cause.specs.kinds.Kinds.{is_abort_done, is_armed, is_bare_abort, is_commit_done, is_committed, is_copy_shown, is_denial, is_dropped, is_entry_shown, is_excluded, is_found, is_got, is_granted_object, is_granted_entry, is_halted, is_limit, is_listed_abort, is_lost_commit, is_met_abort, is_node_given_up, is_old_abort, is_opening, is_plain_refusal, is_prepared, is_quiet, is_sent, is_told, is_up, is_void};
 ghost use Rattle.arj_law_cause.specs.kinds.Rows.{RowHolds, RowHoldsWhere, TestHolds};
-ghost use Rattle.arj_law_cause.specs.kinds.Tests.{is_committed_so, is_excluded_so, is_old_so};
+ghost use Rattle.arj_law_cause.specs.kinds.Tests.{is_committed_so, is_old_so};
 
 /// In every run in form, wherever it begins and wherever disks stop, each line of a frame has its cause by the events and the lines before
 /// it, row by row: a frame that is sent has the next number and goes from a node that is up, or from nobody where the script hands over
@@ -143,7 +143,9 @@ pub fn commits_are_called()
 {}
 
 /// In every such run a store is excluded by a commit that is under way by the lines before, of a top of which a write of the object, or an
-/// include of this store for it, survives by them. It does nothing when it runs.
-pub fn exclusions_are_called()
-    ensures excluded { TestHolds is_excluded_so is_excluded }
+/// include of this store for it, survives by them. The store was sent a Prepare since the commit was called, and given up since; or it
+/// answered its Prepare at a place of the commit's span at which another action than this one has a state of an object that this one
+/// changes in doubt at it. It does nothing when it runs.
+pub fn exclusions_have_causes()
+    ensures excluded { RowHolds is_excluded }
 {}

@@ -14,7 +14,7 @@
 //! `denials_have_causes`, `commits_done_have_causes`, `quiesces_have_causes`, `recoveries_have_causes`, `ends_have_causes`,
 //! `shows_have_causes`, `locks_on_objects_are_free`, `locks_on_entries_are_free`, `bindings_have_causes`,
 //! `copies_have_causes`, `locks_lowered_have_causes`, `lost_commits_have_causes`, `giveups_have_causes`,
-//! `refused_commits_have_causes`, `preparations_have_causes`, `commits_are_called`, `exclusions_are_called`;
+//! `refused_commits_have_causes`, `preparations_have_causes`, `commits_are_called`, `exclusions_have_causes`;
 //! `messages_can_be_spelled`, `journals_are_in_form`; `journals_tell_how_nodes_are`, `quiesces_answer_who_waits`,
 //! `rounds_end_quiet`, `asked_alone_is_answered`, `events_send_few_frames`,
 //! `few_events_meet_no_limit`.
@@ -37,7 +37,7 @@ pub use answers::{answers_are_of_their_operations, answers_have_causes};
 pub use bound::{bindings_have_causes, copies_have_causes, locks_lowered_have_causes};
 pub use causes::{
     commits_are_called, commits_done_have_causes, denials_have_causes, ends_have_causes,
-    exclusions_are_called, frame_lines_have_causes, giveups_have_causes, limits_have_causes,
+    exclusions_have_causes, frame_lines_have_causes, giveups_have_causes, limits_have_causes,
     locks_on_entries_are_free, locks_on_objects_are_free, lost_commits_have_causes,
     openings_have_causes, plain_refusals_have_causes, preparations_have_causes,
     quiesces_have_causes, recoveries_have_causes, refused_commits_have_causes,

@@ -177,10 +177,11 @@ module _ (hd : Header) (st : Start) (form : HeaderInForm hd) (before : List Line
     its_change : changes M.seen.lines (let s = stands in let b = s.act in b.id) y ≡ true
     its_change =
         let z = ans.3 in
-        let known_now : AsksAreChanged Z = (reached_has hd (λ N. Reached hd N × AsksAreChanged N) (changed_keep hd form) Z known.2).1 in
+        let known_now : AsksAreChanged hd Z =
+        (reached_has hd (λ N. Reached hd N × AsksAreChanged hd N) (changed_keep hd form) Z known.2).1 in
         let asked_so : AskChanged M.seen.lines (Some (ans.0, ask.Prepare (states_for from p))) =
         subst (λ b. AskChanged M.seen.lines (Some (ans.0, b))) its_ask
-        (subst (AskChanged M.seen.lines) z.asking (known_now z.request (known.1 z.request z.posted))) in
+        (subst (AskChanged M.seen.lines) z.asking (known_now z.request (known.1 z.request z.posted)).0) in
         let c : ChangesEach M.seen.lines (actor (let h = ans.0 in h.path)) (states_for from p) = asked_so.1 early in
         let same : c.0 ≡ (let s = stands in s.act) = one_act (acts M.seen.lines) (let s = its_sound M.seen.lines right in s.distinct) c.0
         (let s = stands in s.act) c.1 (let s = stands in s.began) (c.2 ∙ asker ∙ sym its_uid) in

@@ -80,8 +80,9 @@ doubt_changed hd S reached n a x u here held form early =
 
     its : ChangesEach S.lines (actor (let h = post.4 in h.path)) states.0
     its =
-        let known : Reached hd S × AsksAreChanged S = reached_has hd (λ M. Reached hd M × AsksAreChanged M) (changed_keep hd form) S reached in
-        (subst (AskChanged S.lines) post.5 (known.1 post.0 post.1)).1 early
+        let known : Reached hd S × AsksAreChanged hd S =
+        reached_has hd (λ M. Reached hd M × AsksAreChanged hd M) (changed_keep hd form) S reached in
+        (subst (AskChanged S.lines) post.5 (known.1 post.0 post.1).0).1 early
 
 -- ---- requests
 
@@ -117,8 +118,9 @@ prepare_changed hd S reached n a here p there h states asking st among u held fo
 
     its : ChangesEach S.lines (actor h.path) states
     its =
-        let known : Reached hd S × AsksAreChanged S = reached_has hd (λ M. Reached hd M × AsksAreChanged M) (changed_keep hd form) S reached in
-        (subst (AskChanged S.lines) asking (known.1 p there)).1 early
+        let known : Reached hd S × AsksAreChanged hd S =
+        reached_has hd (λ M. Reached hd M × AsksAreChanged hd M) (changed_keep hd form) S reached in
+        (subst (AskChanged S.lines) asking (known.1 p there).0).1 early
 
     mine : has_changed S.lines (actor h.path) (let w = st.uid in w.num) ≡ true
     mine = subst (λ o. holds_in (λ (b : Act). changes S.lines b.id (let w = st.uid in w.num)) o ≡ true)

@@ -108,7 +108,7 @@ Core A hd M = ((Wide Known M × Wide Base M) × Rights hd M) × AnswersAreMade (
 abbrev pub Inner : List AskedOf → Header → Moment → Type 0
 Inner A hd M = Wide (Right hd) M × Watched A (in_event A) M
 
-inner_steps : (A : List AskedOf) (hd : Header) → KeepsSteps hd (Inner A hd)
+pub inner_steps : (A : List AskedOf) (hd : Header) → KeepsSteps hd (Inner A hd)
 inner_steps A hd = steps_both hd (Wide (Right hd)) (Watched A (in_event A)) (let k = right_wide hd in k.steps)
     (watched_steps A (in_event A) hd)
 

@@ -40,7 +40,7 @@ any_behind : {A : Type 0} (f : A → Bool) (xs ys : List A) → list_any f ys �
 any_behind f [] ys is = is
 any_behind f (x ∷ xs) ys is = or_last (f x) (list_any f (xs ++ ys)) (any_behind f xs ys is)
 
-any_dropped : {A : Type 0} (f : A → Bool) (n : ℕ) (xs ys : List A) → n ≤ length xs → list_any f ys ≡ true →
+pub any_dropped : {A : Type 0} (f : A → Bool) (n : ℕ) (xs ys : List A) → n ≤ length xs → list_any f ys ≡ true →
     list_any f (drop n (xs ++ ys)) ≡ true
 any_dropped f zero xs ys late is = any_behind f xs ys is
 any_dropped f (suc n) [] ys late is = absurd (omega (arith, late))

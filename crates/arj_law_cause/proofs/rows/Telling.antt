@@ -120,7 +120,7 @@ said_by (Say b ∷ es) = b ∷ said_by es
 said_by (Send to m ∷ es) = said_by es
 said_by (Do w ∷ es) = said_by es
 
-behind_said : (e : ℕ) (es : List Effect) (ls : List Line) → lines_behind e es ls ≡ ls ++ numbered e (said_by es)
+pub behind_said : (e : ℕ) (es : List Effect) (ls : List Line) → lines_behind e es ls ≡ ls ++ numbered e (said_by es)
 behind_said e [] ls = sym (append-nil ls)
 behind_said e (Say b ∷ es) ls = behind_said e es (ls ++ numbered e (b ∷ [])) ∙ append_assoc ls (numbered e (b ∷ []))
     (numbered e (said_by es))
@@ -178,7 +178,7 @@ holder_prepared x u d is = by (find (λ (p : Uid × List ObjectState). names_obj
         (at_is d.pend p (in_find (λ (q : Uid × List ObjectState). names_object x q.1) p d.pend some).0)
 
 -- a doubt is of a state that another action has prepared
-doubt_found : (act : Uid) (d : Pair) (ss : List ObjectState) (u w : Uid) → first_refusal act d ss ≡ Some (InDoubt u w) →
+pub doubt_found : (act : Uid) (d : Pair) (ss : List ObjectState) (u w : Uid) → first_refusal act d ss ≡ Some (InDoubt u w) →
     (s : ObjectState) × In s ss × (s.uid ≡ u) × (holder_of u d ≡ Some w)
 doubt_found act d [] u w is = absurd (cc is)
 doubt_found act d (s ∷ ss) u w is = by (refusal_in act d s) refl is (doubt_found act d ss u w)
@@ -207,7 +207,7 @@ doubt_found act d (s ∷ ss) u w is = by (refusal_in act d s) refl is (doubt_fou
     by None at e ih = let r = ih e in (r.0, inr r.1, r.2, r.3)
     by (Some a) at e ih = let r = of (held_at s.uid d) (at ∙ e) in (s, inl refl, r.0, r.1)
 
-doubt_first : (o : Option Prep) (u w : Uid) → unwrap_or o Ready ≡ InDoubt u w → o ≡ Some (InDoubt u w)
+pub doubt_first : (o : Option Prep) (u w : Uid) → unwrap_or o Ready ≡ InDoubt u w → o ≡ Some (InDoubt u w)
 doubt_first None u w e = absurd (cc e)
 doubt_first (Some b) u w e = ap Some e
 

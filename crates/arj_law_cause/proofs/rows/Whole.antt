@@ -91,7 +91,7 @@ crash_number n e c (x ∷ xs) all is = ⊎_elim {C = e ≤ c}
     (λ later. crash_number n e c xs (λ k i. all k (inr i)) later)
     (or_cases ((x.number == e) && is_crash n x.event) (is_crash_at xs n e) is)
 
-next_crash : (n e : ℕ) (p : Past) (v : Event) (bodies : List Body) → is_crash_at (next p v bodies).accepted n e ≡ true →
+pub next_crash : (n e : ℕ) (p : Past) (v : Event) (bodies : List Body) → is_crash_at (next p v bodies).accepted n e ≡ true →
     (is_crash_at p.accepted n e ≡ true) ⊎ ((p.count + 1 ≡ e) × (is_crash n v ≡ true))
 next_crash n e p v bodies = by (is_refused bodies)
   where

@@ -37,14 +37,14 @@ use Rattle.arj_law_cause.proofs.told.Joined.{journals_follow}
 use Rattle.arj_law_cause.proofs.told.Locks.{granted_whole}
 use Rattle.arj_law_cause.proofs.told.Together.{AreInside, step_inside, together}
 use Rattle.arj_law_cause.proofs.waits.given.Running.{given_row}
-use Rattle.arj_law_cause.proofs.votes.{Excluded.excluded_run, Prepared.prepared_row}
+use Rattle.arj_law_cause.proofs.votes.{Exclusions.excluded_run, Prepared.prepared_row}
 use Rattle.arj_law_cause.specs.kinds.Kinds.{is_abort_done, is_active, is_armed, is_bare_abort, is_bound, is_commit_done, is_committed}
 use Rattle.arj_law_cause.specs.kinds.Kinds.{is_copy_shown, is_denial, is_dropped, is_entry_shown, is_excluded, is_found, is_got}
 use Rattle.arj_law_cause.specs.kinds.Kinds.{is_granted_entry, is_granted_object, is_halted, is_limit, is_listed_abort, is_lock_lowered}
 use Rattle.arj_law_cause.specs.kinds.Kinds.{is_lost_commit, is_met_abort, is_node_given_up, is_old_abort, is_opening, is_prepared, is_quiet}
 use Rattle.arj_law_cause.specs.kinds.Kinds.{is_sent, is_told, is_up, is_void}
 use Rattle.arj_law_cause.specs.kinds.Rows.{row, tested}
-use Rattle.arj_law_cause.specs.kinds.Tests.{is_committed_so, is_excluded_so, is_old_so}
+use Rattle.arj_law_cause.specs.kinds.Tests.{is_committed_so, is_old_so}
 use Rattle.arj_law_cause.specs.rows.Lines.{answer_fits}
 use Rattle.arj_law_cause.specs.told.Lines.{TellsWhy, is_told_why}
 
@@ -135,7 +135,7 @@ others =
     ∷ row (λ h. is_quiet)
     ∷ row (λ h. is_entry_shown)
     ∷ row (λ h. is_copy_shown)
-    ∷ tested is_excluded_so (λ h. is_excluded)
+    ∷ row (λ h. is_excluded)
     ∷ []
 
 abbrev tests : List Test
@@ -200,8 +200,10 @@ module _ (hd : Header) (r : Run hd) (form : IsInForm hd r) where
                                                       (λ h c. refl, quiet_row hd r form),
                                                       ((
                                                         (λ h c. refl, entry_row hd r form),
-                                                        (
-                                                            ((λ h c. refl, copy_row hd r form), ((λ h c. refl, excluded_run hd r form), tt))),
+                                                        ((
+                                                          (λ h c. refl, copy_row hd r form),
+                                                          ((λ h c. refl, excluded_run hd r form), tt),
+                                                        )),
                                                       )),
                                                     )),
                                                   )),
@@ -271,7 +273,7 @@ why h (body.Committed l) is = (and_parts (is_committed_so h (body.Committed l)) 
 why h (body.Aborted l (cause.Changed n d)) is = refl
 why h (body.Aborted l (cause.Old n x v)) is = (and_parts (is_old_so h (body.Aborted l (cause.Old n x v))) true is).0
 why h (body.GaveUp l n) is = (and_parts (is_told_why h (body.GaveUp l n)) true is).0
-why h (body.Excluded l x n) is = (and_parts (is_excluded_so h (body.Excluded l x n)) true is).0
+why h (body.Excluded l x n) is = (and_parts (has_cause h (body.Excluded l x n)) true is).0
 why h (body.Prepared n u r) is = (and_parts (is_told_why h (body.Prepared n u r)) true is).0
 why h (body.Told n u e p) is = (and_parts (is_told_why h (body.Told n u e p)) true is).0
 why h (body.Bad n) is = absurd (cc is)

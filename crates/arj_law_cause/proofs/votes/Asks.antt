@@ -1,4 +1,5 @@
--- Whoever is asked to prepare states gets one at least, for a top that has changed the object of each, by the journal.
+-- Whoever is asked to prepare states gets one at least, for a top that has changed the object of each, by the journal; and may be a store
+-- of each.
 use Rattle.arj_law_parts.proofs.Words
 use Words.{⊤, ◌≡◌, ◌⊎◌, ◌∙◌, ◌||◌, ◌++◌, ◌+◌, ℕ, Bool, true, false, cond, List, [], ◌∷◌, Option, Some, None, refl, sym, ap, subst, inl, inr}
 use Words.{⊎_elim, AllByRecursion, IfSome, in_find, in_filter_map, in_from, is_on, numbered, uid_is, uid_eq, is_some}
@@ -43,6 +44,8 @@ use Rattle.arj_model.specs.Last.{is_among, joins_of}
 use Rattle.arj_law_cause.proofs.confirm.{Joined.IsEarly, Joined.early_before, Reached.Reached, Reached.reached_has, Reached.reached_kept}
 use Rattle.arj_law_cause.proofs.kinds.Asking.{Stood, found_in, stood_keep}
 use Rattle.arj_law_cause.proofs.kinds.Late.{Late, acts_late, message_late, restart_late, tick_late}
+use Rattle.arj_law_cause.proofs.rows.Lists.{AreListed, Lists, NowLists}
+use Rattle.arj_law_cause.proofs.rows.Stores.{MayStore, StoresAreKnown, joined_stores, stored_keep, stores_later}
 use Rattle.arj_law_cause.proofs.spelled.{Commits.of_few, Commits.rooms, Plans.IsOfFew}
 use Rattle.arj_law_cause.proofs.votes.{Filled.AreFilled, Filled.Full, Filled.IsFilled, Filled.acts_filled, Filled.fulls}
 use Rattle.arj_law_cause.proofs.votes.{Filled.message_filled, Filled.restart_filled, Filled.tick_filled}
@@ -65,9 +68,22 @@ AskChanged lines None = ⊤
 AskChanged lines (Some (h, ask.Prepare states)) = (states ≡ [] → ⊥) × (IsEarly lines → ChangesEach lines (actor h.path) states)
 AskChanged lines (Some (h, a)) = ⊤
 
+-- the node may be a store of the object of each of these states
+abbrev pub StoresEach : Header → List Line → ℕ → List ObjectState → Type 0
+StoresEach hd lines n states = (st : ObjectState) → In st states → MayStore hd lines (let u = st.uid in u.num) n
+
+-- so may who gets a Prepare
+abbrev pub AskStored : Header → List Line → ℕ → Option (Head × Ask) → Type 0
+AskStored hd lines n (Some (h, ask.Prepare states)) = StoresEach hd lines n states
+AskStored hd lines n o = ⊤
+
+-- both are so of a message
+abbrev pub PostKnown : Header → List Line → Post → Type 0
+PostKnown hd lines p = AskChanged lines (asks p.message) × AskStored hd lines p.to (asks p.message)
+
 -- so it is of each request that was sent
-abbrev pub AsksAreChanged : Seen → Type 0
-AsksAreChanged M = (p : Post) → seen.In p M.sent → AskChanged M.lines (asks p.message)
+abbrev pub AsksAreChanged : Header → Seen → Type 0
+AsksAreChanged hd M = (p : Post) → seen.In p M.sent → PostKnown hd M.lines p
 
 each_later : (ls ms : List Line) (u : Uid) (states : List ObjectState) → ChangesEach ls u states → ChangesEach (ls ++ ms) u states
 each_later ls ms u states (a, there, its, each) = (
@@ -88,6 +104,20 @@ ask_later ls ms (Some (h, ask.Activate a b)) so = so
 ask_later ls ms (Some (h, ask.Record a b c d)) so = so
 ask_later ls ms (Some (h, ask.Invoke a b c d e)) so = so
 ask_later ls ms (Some (h, ask.Vote a b c)) so = so
+
+store_later : (hd : Header) (ls ms : List Line) (n : ℕ) (o : Option (Head × Ask)) → AskStored hd ls n o → AskStored hd (ls ++ ms) n o
+store_later hd ls ms n None so = tt
+store_later hd ls ms n (Some (h, ask.Prepare states)) so = λ st i. stores_later hd ls ms (let u = st.uid in u.num) n (so st i)
+store_later hd ls ms n (Some (h, ask.Confirm grants excluded included)) so = tt
+store_later hd ls ms n (Some (h, ask.Bind a b c)) so = tt
+store_later hd ls ms n (Some (h, ask.Load a)) so = tt
+store_later hd ls ms n (Some (h, ask.Activate a b)) so = tt
+store_later hd ls ms n (Some (h, ask.Record a b c d)) so = tt
+store_later hd ls ms n (Some (h, ask.Invoke a b c d e)) so = tt
+store_later hd ls ms n (Some (h, ask.Vote a b c)) so = tt
+
+post_later : (hd : Header) (ls ms : List Line) (p : Post) → PostKnown hd ls p → PostKnown hd (ls ++ ms) p
+post_later hd ls ms p so = (ask_later ls ms (asks p.message) so.0, store_later hd ls ms p.to (asks p.message) so.1)
 
 -- ---- what a coordinator asks
 
@@ -151,6 +181,12 @@ module _ (hd : Header) (form : HeaderInForm hd) (k : ℕ) (d : Disk) (v : Parts)
 
   its_up : IsUp (let e = known.0.0.0.0 in e.0) N.sent N.labels k d.inc v
   its_up = let e = known.0.0.0.0 in it 0 k d v N (e.0, e.1)
+
+  lists : AreListed (MayStore hd N.lines) v.coord
+  lists =
+      let s : StoresAreKnown hd (up k d v N) =
+      reached_has hd (StoresAreKnown hd) (keeps_asked hd (StoresAreKnown hd) (stored_keep hd)) (up k d v N) r in
+      (let z = s.1 in z.coords k (record { number = k; disk = d; live = Some v }) v here refl).1
 
   module _ (u : Uid) (q : Doing) (m : Machine) (found : doing_of u v.coord ≡ Some q) (now : q.now ≡ Committing m) where
     named : IsNamed (up k d v N) k u q
@@ -261,6 +297,41 @@ module _ (hd : Header) (form : HeaderInForm hd) (k : ℕ) (d : Disk) (v : Parts)
         by None is = join (has w.0.joins to) refl (ap (state_by to w.0) (sym is) ∙ w.2)
         by (Some cs) is = wrote cs is (has w.0.stores to || has w.0.joins to) (ap (state_by to w.0) (sym is) ∙ w.2)
 
+    -- and may be a store of it
+    pub sends_stored : (to : ℕ) (st : ObjectState) → In st (states_for to (plan_of m)) → MayStore hd N.lines (let z = st.uid in z.num) to
+    sends_stored to st i = by (changed_of w.0.x (plan_of m)) refl
+      where
+        w : (w : Used) × In w (plan_of m).used × (state_for to (plan_of m) w ≡ Some st)
+        w = in_filter_map (state_for to (plan_of m)) st (plan_of m).used i
+
+        at : (us : List Used) → AllByRecursion (λ (z : Used). Lists (MayStore hd N.lines) z.x z.stores) us → In w.0 us →
+            Lists (MayStore hd N.lines) w.0.x w.0.stores
+        at [] all j = absurd j
+        at (z ∷ zs) all (inl same) = subst (λ (y : Used). Lists (MayStore hd N.lines) y.x y.stores) same all.0
+        at (z ∷ zs) all (inr j) = at zs all.1 j
+
+        wrote : (cs : ObjectState) → changed_of w.0.x (plan_of m) ≡ Some cs → (b : Bool) → (has w.0.stores to || has w.0.joins to) ≡ b →
+            cond b (Some cs) None ≡ Some st → MayStore hd N.lines (let z = st.uid in z.num) to
+        wrote cs is true on same =
+            let one : cs ≡ st = (let e : ◌≡◌ {A = Option ObjectState} (Some cs) (Some st) = same in cc e) in
+            let f = in_find (λ (z : ObjectState). uid_eq z.uid (object w.0.x)) cs (let y = plan_of m in y.changed) is in
+            subst (λ y. MayStore hd N.lines y to) (sym (ap (λ (z : ObjectState). let y = z.uid in y.num)
+            (sym one) ∙ ap (λ (z : Uid). z.num) (uid_is cs.uid
+            (object w.0.x) f.1)))
+            (⊎_elim (λ old. at (plan_of m).used (subst (NowLists (MayStore hd N.lines)) now (lists.works u q found)) w.1 to old)
+            (λ new. joined_stores hd N.lines (let a = its_act in a.id) w.0.x to (has_joined w.0 w.1 to new))
+            (or_cases (has w.0.stores to) (has w.0.joins to) on))
+        wrote cs is false on same = let no_way : ◌≡◌ {A = Option ObjectState} None (Some st) = same in absurd (cc no_way)
+
+        join : (b : Bool) → has w.0.joins to ≡ b → cond b w.0.loaded None ≡ Some st → MayStore hd N.lines (let z = st.uid in z.num) to
+        join true on same = subst (λ y. MayStore hd N.lines y to) (sym (ap (λ (z : Uid). z.num) (loaded_of w.0 w.1 st same)))
+            (joined_stores hd N.lines (let a = its_act in a.id) w.0.x to (has_joined w.0 w.1 to on))
+        join false on same = let no_way : ◌≡◌ {A = Option ObjectState} None (Some st) = same in absurd (cc no_way)
+
+        by : (o : Option ObjectState) → changed_of w.0.x (plan_of m) ≡ o → MayStore hd N.lines (let z = st.uid in z.num) to
+        by None is = join (has w.0.joins to) refl (ap (state_by to w.0) (sym is) ∙ w.2)
+        by (Some cs) is = wrote cs is (has w.0.stores to || has w.0.joins to) refl (ap (state_by to w.0) (sym is) ∙ w.2)
+
     -- and so has changed it
     pub sends_changed : IsEarly N.lines → (to : ℕ) (st : ObjectState) → In st (states_for to (plan_of m)) →
         changes N.lines (let a = its_act in a.id) (let z = st.uid in z.num) ≡ true
@@ -293,45 +364,61 @@ module _ (hd : Header) (form : HeaderInForm hd) (k : ℕ) (d : Disk) (v : Parts)
   sent_so to h (ask.Invoke a b c e f) s filled = tt
   sent_so to h (ask.Vote a b c) s filled = tt
 
+  sent_stored : (to : ℕ) (h : Head) (a : Ask) → IsSentBy v.coord to h a → AskStored hd N.lines to (Some (h, a))
+  sent_stored to h (ask.Prepare states) s =
+      let b = prepares_by v.coord to h states s in
+      λ st i. sends_stored (actor h.path) b.doing (Preparing b.plan b.left) b.found b.now to st (subst (In st) b.same i)
+  sent_stored to h (ask.Confirm grants excluded included) s = tt
+  sent_stored to h (ask.Bind a b c) s = tt
+  sent_stored to h (ask.Load a) s = tt
+  sent_stored to h (ask.Activate a b) s = tt
+  sent_stored to h (ask.Record a b c e) s = tt
+  sent_stored to h (ask.Invoke a b c e f) s = tt
+  sent_stored to h (ask.Vote a b c) s = tt
+
 -- ---- along effects
 
 -- each is so, or comes with these effects, behind which nothing is done on the disk
-abbrev AreOrNew : Parts → List Effect → Seen → Type 0
-AreOrNew v es M = (p : Post) → seen.In p M.sent → AskChanged M.lines (asks p.message)
+abbrev AreOrNew : Header → Parts → List Effect → Seen → Type 0
+AreOrNew hd v es M = (p : Post) → seen.In p M.sent → PostKnown hd M.lines p
     ⊎ (((h : Head) (a : Ask) → asks p.message ≡ Some (h, a) → IsSentBy v.coord p.to h a) × IsFilled (asks p.message) × AreIdle es)
 
 module _ (hd : Header) (form : HeaderInForm hd) where
   walk : (e k : ℕ) (v : Parts) (outs : List Effect) (d : Disk) (M : Seen) → AllSo v.coord outs → AreFilled outs → Late outs →
-      AreOrNew v outs M → Walks (Reached hd) e k outs (Up (Reached hd) k v) d M → Walks AsksAreChanged e k outs (Up AsksAreChanged k v) d M
+      AreOrNew hd v outs M → Walks (Reached hd) e k outs (Up (Reached hd) k v) d M →
+      Walks (AsksAreChanged hd) e k outs (Up (AsksAreChanged hd) k v) d M
   walk e k v [] d M so filled late are reached = λ p there. ⊎_elim (λ old. old) (λ new. by p (asks p.message) refl new.0 new.1)
       (are p there)
     where
       by : (p : Post) (o : Option (Head × Ask)) → asks p.message ≡ o → ((h : Head) (a : Ask) → asks p.message ≡ Some (h, a) →
-          IsSentBy v.coord p.to h a) → IsFilled (asks p.message) → AskChanged M.lines (asks p.message)
-      by p None is new full = subst (AskChanged M.lines) (sym is) tt
-      by p (Some q) is new full = subst (AskChanged M.lines) (sym is)
-          (sent_so hd form k d v M reached p.to q.0 q.1 (new q.0 q.1 is) (subst IsFilled is full))
+          IsSentBy v.coord p.to h a) → IsFilled (asks p.message) → PostKnown hd M.lines p
+      by p None is new full = subst (λ o. AskChanged M.lines o × AskStored hd M.lines p.to o) (sym is) (tt, tt)
+      by p (Some q) is new full = subst (λ o. AskChanged M.lines o × AskStored hd M.lines p.to o) (sym is) (
+        sent_so hd form k d v M reached p.to q.0 q.1 (new q.0 q.1 is) (subst IsFilled is full),
+        sent_stored hd form k d v M reached p.to q.0 q.1 (new q.0 q.1 is),
+      )
   walk e k v (Do w ∷ es) d M so filled late are reached = (
-    λ how p there. ask_later M.lines (numbered e (body.Halted k ∷ [])) (asks p.message) (was p there),
+    λ how p there. post_later hd M.lines (numbered e (body.Halted k ∷ [])) p (was p there),
     walk e k v es (worked w d) M so.1 filled late (λ p there. inl (was p there)) reached.1,
   )
     where
-      was : AsksAreChanged M
+      was : AsksAreChanged hd M
       was p there = ⊎_elim (λ old. old) (λ new. let z : AreIdle (Do w ∷ es) = new.2 in absurd z.0) (are p there)
   walk e k v (Say b ∷ es) d M so filled late are reached = walk e k v es d (said e (b ∷ []) M) so.1 filled late
-      (λ p there. ⊎_elim (λ old. inl (ask_later M.lines (numbered e (b ∷ [])) (asks p.message) old))
+      (λ p there. ⊎_elim (λ old. inl (post_later hd M.lines (numbered e (b ∷ [])) p old))
       (λ new. let z : AreIdle (Say b ∷ es) = new.2 in inr (new.0, new.1, z.1)) (are p there)) reached
   walk e k v (Send to m ∷ es) d M so filled late are reached = λ more quiet. walk e k v es d
       (said e more (posted (record { from = k; to = to; message = m }) M)) so.1 filled.1 late.1
       (λ p there. ⊎_elim (λ same. here more p same)
-      (λ old. ⊎_elim (λ is. inl (ask_later M.lines (numbered e more) (asks p.message) is))
+      (λ old. ⊎_elim (λ is. inl (post_later hd M.lines (numbered e more) p is))
       (λ new. let z : AreIdle (Send to m ∷ es) = new.2 in inr (new.0, new.1, z.1)) (are p old)) there) (reached more quiet)
     where
       here : (more : List Body) (p : Post) → record { from = k; to = to; message = m } ≡ p →
-          AskChanged (M.lines ++ numbered e more) (asks p.message)
+          PostKnown hd (M.lines ++ numbered e more) p
           ⊎ (((h : Head) (a : Ask) → asks p.message ≡ Some (h, a) → IsSentBy v.coord p.to h a) × IsFilled (asks p.message) × AreIdle es)
       here more p same = ⊎_elim
-          (λ none. inl (subst (AskChanged (M.lines ++ numbered e more)) (sym none ∙ ap (λ (q : Post). asks q.message) same) tt))
+          (λ none. inl (subst (λ o. AskChanged (M.lines ++ numbered e more) o × AskStored hd (M.lines ++ numbered e more) p.to o)
+          (sym none ∙ ap (λ (q : Post). asks q.message) same) (tt, tt)))
           (λ idle. inr (
             (λ h a is. subst (λ (q : Post). IsSentBy v.coord q.to h a) same
                 (so.0 h a (ap (λ (q : Post). asks q.message) same ∙ is))),
@@ -341,10 +428,10 @@ module _ (hd : Header) (form : HeaderInForm hd) where
           late.0
 
   beside : (e k : ℕ) (v : Parts) (outs : List Effect) (d : Disk) (M : Seen) → AllSo v.coord outs → AreFilled outs → Late outs →
-      AsksAreChanged M → Walks (Reached hd) e k outs (Up (Reached hd) k v) d M →
-      Walks (λ N. Reached hd N × AsksAreChanged N) e k outs (Up (λ N. Reached hd N × AsksAreChanged N) k v) d M
-  beside e k v outs d M so filled late are reached = Terms.walks_both (Reached hd) AsksAreChanged e k outs (Up (Reached hd) k v)
-      (Up AsksAreChanged k v) d M reached (walk e k v outs d M so filled late (λ p there. inl (are p there)) reached)
+      AsksAreChanged hd M → Walks (Reached hd) e k outs (Up (Reached hd) k v) d M →
+      Walks (λ N. Reached hd N × AsksAreChanged hd N) e k outs (Up (λ N. Reached hd N × AsksAreChanged hd N) k v) d M
+  beside e k v outs d M so filled late are reached = Terms.walks_both (Reached hd) (AsksAreChanged hd) e k outs (Up (Reached hd) k v)
+      (Up (AsksAreChanged hd) k v) d M reached (walk e k v outs d M so filled late (λ p there. inl (are p there)) reached)
 
   -- ---- in every run
 
@@ -357,11 +444,11 @@ module _ (hd : Header) (form : HeaderInForm hd) where
       (keeps_asked hd (coords.IsSo Full fulls) (coords.all_keep_so Full fulls hd)) (up k d t M) r in
       f.1 k (record { number = k; disk = d; live = Some t }) t (here hd form k d t M r) refl
 
-  pub changed_keep : KeepsAsked hd (λ M. Reached hd M × AsksAreChanged M)
+  pub changed_keep : KeepsAsked hd (λ M. Reached hd M × AsksAreChanged hd M)
   changed_keep = let keeps = reached_kept hd in record {
-    quiet = λ e bs M quiet g. (keeps.quiet e bs M quiet g.0, λ p there. ask_later M.lines (numbered e bs) (asks p.message) (g.1 p there));
+    quiet = λ e bs M quiet g. (keeps.quiet e bs M quiet g.0, λ p there. post_later hd M.lines (numbered e bs) p (g.1 p there));
     stop = λ e k d live M g.
-        (keeps.stop e k d live M g.0, λ p there. ask_later M.lines (numbered e (body.Halted k ∷ [])) (asks p.message) (g.1 p there));
+        (keeps.stop e k d live M g.0, λ p there. post_later hd M.lines (numbered e (body.Halted k ∷ [])) p (g.1 p there));
     message = λ e k d t v from m outs M g there meant is. let b = good k d t M g.0 in
         beside e k v outs d M (message_sends b.0 e k d t M b.1 from m v outs is) (message_filled k d t v from m outs (full k d t M g.0) is)
         (message_late k d t v from m outs is) g.1 (keeps.message e k d t v from m outs M g.0 there meant is);

@@ -1,4 +1,4 @@
--- A part of the row of what is excluded: while the commit is under way, of a top that has written the object or includes the store for it.
+-- What is excluded: while the commit is under way, of a top that has written the object or includes the store for it.
 use Rattle.arj_law.proofs.Reading.{read_none}
 use Rattle.arj_law_parts.proofs.Words
 use Words.{◌≡◌, ◌∙◌, ◌&&◌, ◌||◌, ◌++◌, ◌+◌, not, ℕ, Bool, true, false, cond, List, [], ◌∷◌, Option, Some, None, refl, sym, ap, subst}
@@ -25,7 +25,6 @@ use Rattle.arj_law_runs.proofs.coordinators.RunCoords as coords
 use Rattle.arj_law_runs.proofs.follow.Halts.{KnowsAll, halts_keep}
 use Rattle.arj_law_runs.proofs.journal.{Books.book_more, Models.its_end, Models.its_acts, Models.named_in, Models.right_before}
 use Rattle.arj_law_runs.proofs.kept.Walked.{same_number}
-use Rattle.arj_law_runs.specs.follow.Frames.{are_so, run_events}
 use Rattle.arj_law_runs.specs.journal.Book.{book, new_book}
 use Rattle.arj_law_runs.specs.journal.Right.{AreRight, Right}
 use Rattle.arj_law_serial.proofs.holding.Says as saying
@@ -36,33 +35,25 @@ use Rattle.arj_model.specs.Actions.{Act, act_in, acts, ended, halt_of, halts, ha
 use Rattle.arj_model.specs.Actions as model
 use Rattle.arj_model.specs.Calls.{committings}
 use Rattle.arj_model.specs.CausePends.{has_written}
-use Rattle.arj_model.specs.CauseSpans.{Here, behind, commit_here, holds_in}
-use Rattle.arj_model.specs.Follows.{Step}
 use Rattle.arj_model.specs.Last.{is_among, joins_of}
 use Rattle.arj_model.specs.Refusals.{holds_of, is_committing, was_called}
-use Rattle.arj_promise.specs.Runs.{Run as RunOf}
+use Rattle.arj_promise.specs.Runs.{IsInForm, Run as RunOf}
+use Rattle.arj_law_cause.proofs.confirm.Called.{is_called}
 use Rattle.arj_law_cause.proofs.confirm.{Joined.IsEarly, Joined.early_before, Labels.right_rest, Reached.Reached, Reached.reached_has}
 use Rattle.arj_law_cause.proofs.confirm.{Reached.reached_kept, Runs.runs_early, Spans.right_front}
 use Rattle.arj_law_cause.proofs.kinds.Asking.{joins_later}
 use Rattle.arj_law_cause.proofs.kinds.Committed.{right_lines}
-use Rattle.arj_law_cause.proofs.kinds.Forms.{runs_too}
-use Rattle.arj_law_cause.proofs.kinds.Lines.{tested_row}
-use Rattle.arj_law_cause.proofs.kinds.LostCommits.{commit_so}
 use Rattle.arj_law_cause.proofs.kinds.Waiting.{called_is}
-use Rattle.arj_law_cause.proofs.told.Joined.{journals_follow}
 use Rattle.arj_law_cause.proofs.votes.{Asks.ChangesFor, Asks.its_act, Asks.its_name, Asks.sends_written, Growing.written_later}
 use Rattle.arj_law_cause.proofs.votes.{Lines.AreFit, Lines.fit_at, Lines.fit_both, Lines.fit_each}
 use Rattle.arj_law_cause.proofs.votes.{Marks.AreFor, Marks.IsFor, Marks.Marking, Marks.answered_for, Marks.given_for, Marks.marking}
 use Rattle.arj_law_cause.proofs.waits.waiting.Acting as acting
 use Rattle.arj_law_cause.proofs.waits.waiting.Waiting.{commit_is}
-use Rattle.arj_law_cause.specs.kinds.Kinds.{is_excluded}
-use Rattle.arj_law_cause.specs.kinds.Rows.{TestHolds, TestedStep, tested}
-use Rattle.arj_law_cause.specs.kinds.Tests.{is_excluded_so}
 
 -- ---- what a line says
 
 -- what the line excludes: by whom, of which object, which store
-abbrev exclusion : Body → Option (Label × ℕ × ℕ)
+abbrev pub exclusion : Body → Option (Label × ℕ × ℕ)
 exclusion (body.Excluded l x n) = Some (l, x, n)
 exclusion b = None
 
@@ -298,33 +289,36 @@ module _ (hd : Header) (form : HeaderInForm hd) where
   lines_marked : (r : RunOf hd) → AreFit IsMarked [] (journal_by hd r)
   lines_marked r = let h = moves_asked hd (λ M. Reached hd M × LinesMarked M) marked_keep r in h.holds.1
 
--- ---- the part of the row
+-- ---- what is known of a line that excludes a store
 
-record IsExcludedLine (before : List Line) (b : Body) : Type 0 where
+pub record IsExcludedLine (before : List Line) (b : Body) : Type 0 where
   pub right : AreRight new_book before
   pub its : Right (book before) b
   pub early : IsEarly before
   pub marked : IsMarked before b
 
-abbrev any_line : Here → Body → Bool
-any_line h b = true
+-- its commit is under way, of a top that has written the object or includes the store for it
+pub record IsExcluding (lines : List Line) (l : Label) (x n : ℕ) : Type 0 where
+  pub act : Act
+  pub named : act_in (acts lines) (name l) ≡ Some act
+  pub changed : ChangesFor lines act.id x n
+  pub called : is_called lines act.uid
+  pub opened : model.is_over lines act ≡ false
+  pub under : is_committing lines (name l) ≡ true
 
-any_lines : (h : Here) (bs : List Body) → are_so (tested any_line (λ h. is_excluded)) h bs ≡ true
-any_lines h [] = refl
-any_lines h (b ∷ bs) = λ i. on (not (is_excluded b)) i && any_lines (behind h b) bs i
+pub excluding : (lines : List Line) (l : Label) (x n : ℕ) → IsExcludedLine lines (body.Excluded l x n) → IsExcluding lines l x n
+excluding lines l x n k = record {
+  act = a;
+  named = named;
+  changed = subst (λ (b : Act). ChangesFor lines b.id x n) same z.2;
+  called = (let r = k.its in r.2);
+  opened = open_yet;
+  under = ap (holds_of (λ (c : Act). was_called (committings lines) c.id && not (model.is_over lines c))) named
+      ∙ (λ i. (called_is lines k.right a (named_in (acts lines) (name l) a named) ∙ (let r = k.its in r.2)) i && not (open_yet i));
+}
   where
-    on : (x : Bool) → (x || true) ≡ true
-    on true = refl
-    on false = refl
-
-to_test : (h : Here) (b : Body) → is_excluded b ≡ true → IsExcludedLine h.lines b → any_line h b ≡ true → is_excluded_so h b ≡ true
-to_test h (body.Excluded l x n) of k is =
-    ap (holds_of (λ (z : Act). holds_in (λ (c : ℕ). has_written h.lines z.id x || is_among (joins_of h.lines z.id x) n)
-    (commit_here h (name l)))) named ∙ at (commit_here h (name l))
-    (sym (ap (holds_of (λ (z : Act). holds_in (λ (c : ℕ). true) (commit_here h (name l)))) named) ∙ commit_so h (name l) k.right under)
-  where
-    z : (a : Act) × (act_in (let B = book h.lines in B.acts) (name l) ≡ Some a) × ChangesFor h.lines a.id x n
-        × (is_halted (halts h.lines) a ≡ false)
+    z : (a : Act) × (act_in (let B = book lines in B.acts) (name l) ≡ Some a) × ChangesFor lines a.id x n
+        × (is_halted (halts lines) a ≡ false)
     z = k.marked k.early k.right
 
     a : Act
@@ -333,32 +327,22 @@ to_test h (body.Excluded l x n) of k is =
     same : z.0 ≡ a
     same = let e : ◌≡◌ {A = Option Act} (Some z.0) (Some a) = sym z.1 ∙ (let r = k.its in let o = r.1 in o.named) in cc e
 
-    named : act_in (acts h.lines) (name l) ≡ Some a
-    named = let r = k.its in let o = r.1 in ap (λ xs. act_in xs (name l)) (sym (its_acts h.lines k.right)) ∙ o.named
+    named : act_in (acts lines) (name l) ≡ Some a
+    named = let r = k.its in let o = r.1 in ap (λ xs. act_in xs (name l)) (sym (its_acts lines k.right)) ∙ o.named
 
-    unended : has_end (ended h.lines) (let b = a in b.id) ≡ false
-    unended =
-        its_end h.lines k.right a (named_in (acts h.lines) (name l) a named) ∙ (let r = k.its in let o = r.1 in o.unended)
+    unended : has_end (ended lines) (let b = a in b.id) ≡ false
+    unended = its_end lines k.right a (named_in (acts lines) (name l) a named) ∙ (let r = k.its in let o = r.1 in o.unended)
 
-    under : is_committing h.lines (name l) ≡ true
-    under = ap (holds_of (λ (c : Act). was_called (committings h.lines) c.id && not (model.is_over h.lines c))) named
-        ∙ (λ i. (called_is h.lines k.right a (named_in (acts h.lines) (name l) a named) ∙ (let r = k.its in r.2)) i
-        && not (unended i || (ap (is_halted (halts h.lines)) (sym same) ∙ z.3) i))
+    open_yet : model.is_over lines a ≡ false
+    open_yet = λ i. unended i || (ap (is_halted (halts lines)) (sym same) ∙ z.3) i
 
-    at : (o : Option ℕ) → holds_in (λ (c : ℕ). true) o ≡ true →
-        holds_in (λ (c : ℕ). has_written h.lines (let b = a in b.id) x || is_among (joins_of h.lines (let b = a in b.id) x) n) o ≡ true
-    at None none = absurd (cc none)
-    at (Some c) there = subst (λ (b : Act). ChangesFor h.lines b.id x n) same z.2
-to_test h b of k is = absurd (cc of)
-
-pub excluded_run : TestHolds is_excluded_so is_excluded
-excluded_run hd r form = tested_row IsExcludedLine is_excluded any_line is_excluded_so to_test (journal_by hd r)
-    (λ before line behind is.
+-- so much is known of each line of a run
+pub each_excluded : (hd : Header) (r : RunOf hd) → IsInForm hd r → (before : List Line) (line : Line) (behind : List Line) →
+    journal_by hd r ≡ before ++ line ∷ behind → IsExcludedLine before line.body
+each_excluded hd r form before line behind is =
     let x = right_before new_book before line behind (subst (AreRight new_book) is (right_lines hd r)) in record {
       right = x.0;
       its = x.1;
       early = early_before before (line ∷ behind) (subst IsEarly is (runs_early hd r form));
       marked = fit_at IsMarked [] before line behind (subst (AreFit IsMarked []) is (lines_marked hd form.header r));
-    }) hd r.start (run_events hd r)
-    (runs_too (Step hd) (TestedStep any_line (λ h. is_excluded) hd) (λ p e bs step. any_lines _ bs) r.start (run_events hd r)
-    (journal_by hd r) (journals_follow hd r form))
+    }

@@ -136,17 +136,17 @@ coord_others = saying.kind_says is_other is_coord_effect is_coord_line (λ b. re
 
 -- ---- a message
 
-message_says : (k : ℕ) (d : Disk) (t v : Parts) (from : ℕ) (m : Message) (outs : List Effect) (M : Seen) → AsksAreChanged M →
-    seen.In (record { from = from; to = k; message = m }) M.sent → handle k d t from m ≡ Took v outs →
+message_says : (hd : Header) (k : ℕ) (d : Disk) (t v : Parts) (from : ℕ) (m : Message) (outs : List Effect) (M : Seen) →
+    AsksAreChanged hd M → seen.In (record { from = from; to = k; message = m }) M.sent → handle k d t from m ≡ Took v outs →
     AllByRecursion (SaidIn (IsChanged M.lines)) outs
-message_says k d t v from m outs M asks_are there is =
+message_says hd k d t v from m outs M asks_are there is =
     subst (SaysBy (IsChanged M.lines) (end_so M.lines)) is (message_all (IsChanged M.lines) (end_so M.lines) k d t from m fits)
   where
     P : Post
     P = record { from = from; to = k; message = m }
 
     so : AskChanged M.lines (asks m)
-    so = asks_are P there
+    so = (asks_are P there).0
 
     some : (h : Head) (states : List ObjectState) → AskChanged M.lines (Some (h, ask.Prepare states)) → HasChanged M.lines (actor h.path)
     some h [] its early = absurd (its.0 refl)
@@ -179,7 +179,7 @@ message_says k d t v from m outs M asks_are there is =
 
 module _ (hd : Header) (form : HeaderInForm hd) where
   abbrev Base : Seen → Type 0
-  Base M = Reached hd M × AsksAreChanged M
+  Base M = Reached hd M × AsksAreChanged hd M
 
   beside : (e k : ℕ) (v : Parts) (outs : List Effect) (d : Disk) (M : Seen) → AllByRecursion (SaidIn (IsChanged M.lines)) outs →
       LinesChanged M → Walks Base e k outs (Up Base k v) d M →
@@ -191,7 +191,7 @@ module _ (hd : Header) (form : HeaderInForm hd) where
   prepared_keep = let keeps = changed_keep hd form in record {
     quiet = λ e bs M quiet g. (keeps.quiet e bs M quiet g.0, quiet_lines e bs M quiet g.1);
     stop = λ e k d live M g. (keeps.stop e k d live M g.0, one_line e (body.Halted k) M tt g.1);
-    message = λ e k d t v from m outs M g there meant is. beside e k v outs d M (message_says k d t v from m outs M g.0.1 there is) g.1
+    message = λ e k d t v from m outs M g there meant is. beside e k v outs d M (message_says hd k d t v from m outs M g.0.1 there is) g.1
         (keeps.message e k d t v from m outs M g.0 there meant is);
     act = λ e k d t i M is asks free g. let did = acts_of i d.intents t.coord in beside e k (with_coord t did.part) did.outs d M
         (others_said did.outs (coord_others did.outs (acts_own i d.intents t.coord)) M.lines) g.1 (keeps.act e k d t i M is asks free g.0);

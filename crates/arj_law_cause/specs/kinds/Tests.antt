@@ -16,9 +16,9 @@ use Rattle.arj_model.specs.Actions.{Act, act_in, acts}
 use Rattle.arj_model.specs.Calls.{surviving}
 use Rattle.arj_model.specs.CauseCommits.{writers}
 use Rattle.arj_model.specs.CauseEnds.{is_commit_of}
-use Rattle.arj_model.specs.CausePends.{changes, has_written}
+use Rattle.arj_model.specs.CausePends.{changes}
 use Rattle.arj_model.specs.CauseSpans.{Here, answered, behind, commit_here, commits_so, holds_in}
-use Rattle.arj_model.specs.Last.{is_among, joins_of, listed}
+use Rattle.arj_model.specs.Last.{listed}
 use Rattle.arj_model.specs.Refusals.{holds_of}
 use Rattle.arj_protocol.specs.Tree.{is_nested}
 use Rattle.arj_law_cause.specs.rows.Says.{may_prepare}
@@ -54,9 +54,3 @@ abbrev pub is_old_so : Here → Body → Bool
 is_old_so h (body.Aborted l (cause.Old n x v)) = nat_le 1 v && commits_so h (name l) (λ a c. changes h.lines a.id x
     && answered h c a.uid.node n (frame.Prepared ∷ []) (λ before. nat_le v ((h.start.marks.states x).version + writers before x)))
 is_old_so h _ = true
-
--- `excluded`. A store is excluded by a commit that is under way, of a top that has written the object or includes the store for it.
-abbrev pub is_excluded_so : Here → Body → Bool
-is_excluded_so h (body.Excluded l x n) =
-    commits_so h (name l) (λ a c. has_written h.lines a.id x || is_among (joins_of h.lines a.id x) n)
-is_excluded_so h _ = true

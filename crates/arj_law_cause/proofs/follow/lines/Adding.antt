@@ -196,6 +196,25 @@ module _ (hd : Header) (form : HeaderInForm hd) where
         (giveup_tells at q.node q.parts (let b = q.branch in actor b.path) (let k = q.node in let d = k.disk in d.intents) o.doing o.does
         (Own (let d = o.doing in d.label)) its (given_waits l q))))
 
+    -- the same with the line that the commit is lost, where it ends so
+    pub first_adds : (l : Label) (q : Asks l (input.GiveUp l)) →
+        (let o = works_so l (input.GiveUp l) q in let d = o.doing in
+        Adds (Led works (λ own. own ≡ Steps.first_lines l d.now) (node_of l t)) t (steps (node_of l t) (input.GiveUp l) t))
+    first_adds l q =
+        let o = works_so l (input.GiveUp l) q in
+        let at = node_of l t in
+        let now = (let d = o.doing in d.now) in
+        node_adds (Led works (λ own. own ≡ Steps.first_lines l now) at) at (input.GiveUp l) t q.node q.there
+        (subst (Tells (Led works (λ own. own ≡ Steps.first_lines l now) at) at (let k = q.node in k.disk))
+        (sym (taken_step (input.GiveUp l) q.node q.parts q.live q.free
+        ∙ ap (λ z. input.coord_did q.node q.parts (input.on_branch (λ b. Words.give_up (actor b.path)
+        (let k = q.node in let d = k.disk in d.intents) (let v = q.parts in v.coord)) (let v = q.parts in v.coord) z)) q.named))
+        (subst (λ (x : Label). (let c = Words.give_up (let b = q.branch in actor b.path) (let k = q.node in let d = k.disk in d.intents)
+        (let v = q.parts in v.coord) in Tells (Led works (λ own. own ≡ Steps.first_lines x now) at) at (let k = q.node in k.disk)
+        (Words.node_did q.node [] (Words.with_coord q.parts c.part) c.outs))) o.label
+        (Steps.first_tells at q.node q.parts (let b = q.branch in actor b.path) (let k = q.node in let d = k.disk in d.intents) o.doing
+        o.does (given_waits l q))))
+
     pub giveup_adds : Holds hd KnowsRising w → (l : Label) → Asks l (input.GiveUp l) →
         Adds (Led (loses l) (own.AreGiveUps l) (node_of l t)) t (steps (node_of l t) (input.GiveUp l) t)
     giveup_adds rising l q =

@@ -1,6 +1,7 @@
 -- What each input makes a node say: own lines first, and then its work.
 use Rattle.arj_law_parts.proofs.Words
 use Words.{◌≡◌, ◌⊎◌, ◌∙◌, ◌+◌, ◌==◌, ◌&&◌, ◌++◌, ℕ, zero, suc, Bool, true, false, cond, List, [], ◌∷◌, map, refl, sym, ap, subst, arith}
+use Words.{append_assoc, map-append}
 use Words.{nat_tests, inl, inr, Option, Some, None, list_all, and_parts, flat_map, all_flat, Body, Disk, Do, Effect, Look, PutInc, Say}
 use Words.{Send, Stop, worked, Intent, Header, Label, Kind, Message, Op, Uid, Handled, Took, Void, again_all, again_now, bodies, call}
 use Words.{commit_action, commit_open, commit_top, cut, halted_outs, holders, include, most_rounds, name, naming_at, naming_back}
@@ -41,7 +42,7 @@ IsCommitLine k l own = (own ≡ commit_line k l ∷ []) ⊎ (own ≡ body.Aborte
 
 -- ---- what a coordinator does
 
-did : (k : ℕ) (Own : List Body → Type 0) (n : Node) (t : Parts) (own : List Body) (outs fs : List Effect) → outs ≡ say_all own ++ fs →
+pub did : (k : ℕ) (Own : List Body → Type 0) (n : Node) (t : Parts) (own : List Body) (outs fs : List Effect) → outs ≡ say_all own ++ fs →
     Work fs → Own own → Tells (Led works Own k) k n.disk (node_did n [] t outs)
 did k Own n t own outs fs is work its =
     let w = led_whole works same n.number t own fs n.disk (such_work works same fs work) in
@@ -70,6 +71,16 @@ abbrev pub given_up_of : Now → List ℕ
 given_up_of Idle = []
 given_up_of (Calling q) = next_node q ∷ []
 given_up_of (Committing m) = nodes_given_up m
+
+-- that the commit is lost, where a giveup ends it
+abbrev pub lost_line : Label → Now → List Body
+lost_line l (Committing (Voting p left)) = body.Aborted l (cause.Lost (commit.first_of left)) ∷ []
+lost_line l (Committing (Confirming p)) = body.Aborted l (cause.Lost 1) ∷ []
+lost_line l z = []
+
+-- what a giveup says first: a line for each node, and this
+abbrev pub first_lines : Label → Now → List Body
+first_lines l z = map (λ (j : ℕ). body.GaveUp l j) (given_up_of z) ++ lost_line l z
 
 module _ (k : ℕ) (n : Node) (t : Parts) where
   -- an abort says a line for each action that it ends
@@ -159,6 +170,46 @@ module _ (k : ℕ) (n : Node) (t : Parts) where
             (step_call_work s (given_up s.at) (on_root (root_of s.path) (root_lost s (given_up s.at)) t.coord))) its
         now (Committing m) its waits =
             gives Own (nodes_given_up m) (moved_commit u (commit.given_up m) intents t.coord) (commit_such m) its
+
+    -- what a step says whose own lines are these
+    abbrev FirstOwn : Now → Words.Did Coord → Type 0
+    FirstOwn z d = Tells (Led works (λ own. own ≡ first_lines q.label z) k) k n.disk (node_did n [] (with_coord t d.part) d.outs)
+
+    first : (z : Now) (d : Words.Did Coord) (fs : List Effect) → Work fs → d.outs ≡ say_all (lost_line q.label z) ++ fs →
+        FirstOwn z (record { part = d.part; outs = gaveup_lines u (given_up_of z) t.coord ++ d.outs })
+    first z d fs work are =
+        let gs : List Body = map (λ (j : ℕ). body.GaveUp q.label j) (given_up_of z) in
+        did k (λ own. own ≡ first_lines q.label z) n (with_coord t d.part) (first_lines q.label z)
+        (gaveup_lines u (given_up_of z) t.coord ++ d.outs) fs
+        ((λ i. gaveup_said (given_up_of z) i ++ are i)
+        ∙ sym (append_assoc (say_all gs) (say_all (lost_line q.label z)) fs)
+        ∙ ap (λ es. es ++ fs) (sym (map-append Say gs (lost_line q.label z)))) work refl
+
+    lost : (m : ℕ) (p : Plan) → (step_commit u (Aborts (cause.Lost m) p) intents t.coord).outs
+        ≡ Say (body.Aborted q.label (cause.Lost m)) ∷ tolds_of intents (Words.ended u ending.Abort t.coord) u
+    lost m p = ap (λ o. say_for (λ l. body.Aborted l (cause.Lost m)) o ++ tolds_of intents (Words.ended u ending.Abort t.coord) u) does
+
+    -- a giveup says the nodes first, and where it ends the commit, that it is lost
+    pub first_tells : is_waiting_now q.now ≡ true → FirstOwn q.now (give_up u intents t.coord)
+    first_tells waits = subst (λ o. FirstOwn q.now (give_up_doing u intents t.coord o)) (sym does) (now q.now waits)
+      where
+        rest : List Effect
+        rest = tolds_of intents (Words.ended u ending.Abort t.coord) u
+
+        now : (z : Now) → is_waiting_now z ≡ true → FirstOwn z (gives_up u intents t.coord z)
+        now Idle waits = absurd (cc waits)
+        now (Calling s) waits = let d = give_up_call s t.coord in first (Calling s) d d.outs
+            (step_call_work s (given_up s.at) (on_root (root_of s.path) (root_lost s (given_up s.at)) t.coord)) refl
+        now (Committing (Voting p left)) waits = first (Committing (Voting p left))
+            (moved_commit u (commit.given_up (Voting p left)) intents t.coord) rest
+            (tolds_of_work intents (Words.ended u ending.Abort t.coord) u) (lost (commit.first_of left) p)
+        now (Committing (Preparing p left)) waits =
+            let d = moved_commit u (commit.given_up (Preparing p left)) intents t.coord in
+            first (Committing (Preparing p left)) d d.outs
+            (moved_commit_work u (commit.given_up (Preparing p left)) intents t.coord (stores_refuse [] (commit.marks_stores left p))) refl
+        now (Committing (Confirming p)) waits = first (Committing (Confirming p))
+            (moved_commit u (commit.given_up (Confirming p)) intents t.coord) rest
+            (tolds_of_work intents (Words.ended u ending.Abort t.coord) u) (lost 1 p)
 
   -- calls and includes ask
   pub call_tells : (b : Branch) (x : ℕ) (o : Op) → (let d = call b.path x o t.coord in

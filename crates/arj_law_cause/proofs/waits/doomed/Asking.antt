@@ -1,16 +1,19 @@
--- Which calls wait for what they asked a server to run: what they ask goes out as they come to it, and they stay at it.
+-- Which calls wait for what they asked a server to run, and commits for what they asked: what they ask goes out as they come to it, and
+-- they stay at it.
 use Rattle.arj_law_parts.proofs.Words
 use Words.{◌≡◌, ◌⊎◌, ◌∙◌, ◌+◌, ℕ, zero, suc, Bool, true, false, cond, List, [], ◌∷◌, ◌++◌, Option, Some, None, refl, sym, ap, subst, inl}
-use Words.{inr, ⊎_elim, ⊤}
+use Words.{inr, ⊎_elim, ⊤, nat_le}
 use Words.{Ask, End, Head, Kind, Label, Path, Uid, Body, asks, path_of, request, request_reads_back, actor, ask_kind, is_invoke_ask}
 use Words.{in_right}
-use Words.{again_all, asks_machine, begin_action, call, call_steps, commit_action, commit_open, commit_top, commits_in, doomed_by, ends_call}
+use Words.{again_all, asks_machine, begin_action, call, call_steps, commit_action, commit_open, commit_top, commits_in, doomed_by}
+use Words.{ends_call}
 use Words.{gaveup_lines, give_up, has, mark_lines, moved_commit, nodes_given_up, says}
 use Words.{give_up_doing, gives_up, goes_on, include, last_req, next_req, renewed, root_heard, root_lost, step_call, step_commit, At}
 use Words.{AtActivate}
 use Words.{AtBind, AtInvoke, AtLoad, AtNote, CallEnd, CallStep, Ended, Goal, On, Steps, ask_at, given_up, is_invoke, next_ask, next_node}
 use Words.{start}
-use Words.{Aborts, Asks, Marked, Used, left_of, CommitStep, Decides, Machine, Plan, Stays, Confirming, Preparing, Voting, ask_of, has_record, participants}
+use Words.{Aborts, Asks, Marked, Used, left_of, CommitStep, Decides, Machine, Plan, Stays, Confirming, Preparing, Voting, ask_of}
+use Words.{has_record, participants}
 use Words.{plan_of, waiting}
 use Words.{Calling, Committing, Coord, Doing, Idle, Now, doing_of, is_free, keeping_of, on_doing, on_root, plan_for, root_at, with_keeping}
 use Words.{Effect, Intent}
@@ -34,20 +37,20 @@ use Rattle.arj_law_lock_view.proofs.asking.Turning.{still_there}
 
 -- ---- ways
 
--- the request isn't that an operation be run
+-- the request isn't that an operation be run, nor one of a commit
 abbrev pub IsOther : Post → Type 0
-IsOther p = (x : Head × Ask) × (asks p.message ≡ Some x) × (is_invoke_ask x.1 ≡ false)
+IsOther p = (x : Head × Ask) × (asks p.message ≡ Some x) × (is_invoke_ask x.1 ≡ false) × (nat_le 6 (ask_kind x.1) ≡ false)
 
 -- such a request is under way in any case
 module _ (F : Post → Type 0) (others : (p : Post) → IsOther p → F p) where
-  pub free_way : (k : ℕ) (u : Uid) (req n : ℕ) (a : Ask) → is_invoke_ask a ≡ false →
+  pub free_way : (k : ℕ) (u : Uid) (req n : ℕ) (a : Ask) → is_invoke_ask a ≡ false → nat_le 6 (ask_kind a) ≡ false →
       HasWay F k (record { act = u; req = req; kind = ask_kind a; node = n })
-  free_way k u req n a off =
+  free_way k u req n a off low =
       let p : Path = path_of (u ∷ []) 1 in
       let h : Head = record { path = p; req = req } in
       record {
         post = post_of k n (request h a);
-        under_way = others (post_of k n (request h a)) ((h, a), request_reads_back h a, off);
+        under_way = others (post_of k n (request h a)) ((h, a), request_reads_back h a, off, low);
         brings = Asking refl refl (asks_for (record { act = u; req = req; kind = ask_kind a; node = n }) p a refl refl);
       }
 
@@ -58,10 +61,18 @@ plain_at x g (AtActivate k st) off = refl
 plain_at x g (AtNote k i) off = refl
 plain_at x g (AtInvoke k i) off = absurd (cc off)
 
-plain_commit : (m : Machine) (n : ℕ) → is_invoke_ask (ask_of m n) ≡ false
-plain_commit (Voting p left) n = refl
-plain_commit (Preparing p left) n = refl
-plain_commit (Confirming p) n = refl
+-- requests of calls and includes are of lower kinds than those of commits
+pub step_kind : (x : ℕ) (g : Goal) (at : At) → nat_le 6 (ask_kind (ask_at x g [] at)) ≡ false
+step_kind x g (AtBind b) = refl
+step_kind x g (AtLoad k n rest) = refl
+step_kind x g (AtActivate k st) = refl
+step_kind x g (AtNote k i) = refl
+step_kind x g (AtInvoke k i) = refl
+
+pub machine_kind : (m : Machine) (n : ℕ) → nat_le 6 (ask_kind (ask_of m n)) ≡ true
+machine_kind (Voting p left) n = refl
+machine_kind (Preparing p left) n = refl
+machine_kind (Confirming p) n = refl
 
 never_settles : (at : At) (k : calls.Known) → is_invoke at ≡ true → IsToSettle at k → ⊥
 never_settles (AtBind b) k is to = to
@@ -70,18 +81,20 @@ never_settles (AtActivate q st) k is to = cc is
 never_settles (AtNote q i) k is to = cc is
 never_settles (AtInvoke q i) k is to = to
 
--- each call that waits for its operation has what answers it under way
-abbrev pub AreUnderWay : ℕ → Coord → (Post → Type 0) → Type 0
-AreUnderWay k c F = (u : Uid) (q : Doing) (s : Steps) → doing_of u c ≡ Some q → q.now ≡ Calling s → is_invoke s.at ≡ true →
-    HasWay F k (want_of_call u s)
+-- each call that waits for its operation has what answers it under way, and so has each commit of each node for which it waits
+pub record AreUnderWay (k : ℕ) (c : Coord) (F : Post → Type 0) : Type 0 where
+  pub calls : (u : Uid) (q : Doing) (s : Steps) → doing_of u c ≡ Some q → q.now ≡ Calling s → is_invoke s.at ≡ true →
+      HasWay F k (want_of_call u s)
+  pub commits : (u : Uid) (q : Doing) (m : Machine) (j : ℕ) → doing_of u c ≡ Some q → q.now ≡ Committing m →
+      has (left_of m) j ≡ true → HasWay F k (want_of_commit u m j)
 
 pub to_brought : (n : ℕ) (c : Coord) (cs : ℕ → Option Coord) (F : Post → Type 0) → ((p : Post) → IsOther p → F p) → cs n ≡ Some c →
     AreUnderWay n c F → AreBrought (λ j. j ≡ n) cs F (λ b. ⊤)
 to_brought n c cs F others here its = record {
   calls = λ k e u q s at found does now. inr (subst (λ j. HasWay F j (want_of_call u s)) (sym at)
       (call_way u q s (ap (doing_of u) (mine k e at found) ∙ does) now (is_invoke s.at) refl));
-  commits = λ k e u q m j at found does now left.
-      free_way F others k u (plan_of m).req j (ask_of m j) (plain_commit m j);
+  commits = λ k e u q m j at found does now left. subst (λ i. HasWay F i (want_of_commit u m j)) (sym at)
+      (its.commits u q m j (ap (doing_of u) (mine k e at found) ∙ does) now left);
 }
   where
     mine : (k : ℕ) (e : Coord) → k ≡ n → cs k ≡ Some e → c ≡ e
@@ -89,13 +102,17 @@ to_brought n c cs F others here its = record {
 
     call_way : (u : Uid) (q : Doing) (s : Steps) → doing_of u c ≡ Some q → q.now ≡ Calling s → (b : Bool) → is_invoke s.at ≡ b →
         HasWay F n (want_of_call u s)
-    call_way u q s does now true is = its u q s does now is
-    call_way u q s does now false off = free_way F others n u s.req (next_node s) (next_ask [] s) (plain_at s.x s.goal s.at off)
+    call_way u q s does now true is = its.calls u q s does now is
+    call_way u q s does now false off =
+        free_way F others n u s.req (next_node s) (next_ask [] s) (plain_at s.x s.goal s.at off) (step_kind s.x s.goal s.at)
 
 pub from_brought : (n : ℕ) (c : Coord) (cs : ℕ → Option Coord) (F : Post → Type 0) (B : Body → Type 0) → cs n ≡ Some c →
     AreBrought (λ j. j ≡ n) cs F B → AreUnderWay n c F
-from_brought n c cs F B here b u q s does now is =
-    ⊎_elim (λ o. absurd (never_settles s.at o.known is o.step)) (λ w. w) (b.calls n c u q s refl here does now)
+from_brought n c cs F B here b = record {
+  calls = λ u q s does now is.
+      ⊎_elim (λ o. absurd (never_settles s.at o.known is o.step)) (λ w. w) (b.calls n c u q s refl here does now);
+  commits = λ u q m j does now left. b.commits n c u q m j refl here does now left;
+}
 
 -- ---- what a coordinator does
 
@@ -112,13 +129,25 @@ GoOn c e outs = (w : Uid) (q : Doing) → doing_of w e ≡ Some q →
 
 pub gone_on : (n : ℕ) (c e : Coord) (outs : List Effect) (F : Post → Type 0) → GoOn c e outs → AreUnderWay n c F →
     AreUnderWay n e (Then F n outs)
-gone_on n c e outs F go its u q s does now is = ⊎_elim
-    (λ old. let w = its u old.0 s old.1 (old.2 ∙ now) is in record { post = w.post; under_way = inl w.under_way; brings = w.brings })
-    (λ all. asked (subst (AsksAll outs u) now all))
-    (go u q does)
+gone_on n c e outs F go its = record {
+  calls = λ u q s does now is. ⊎_elim (λ old. more (want_of_call u s) (its.calls u old.0 s old.1 (old.2 ∙ now) is))
+      (λ all. asked (want_of_call u s) (a_call u s (subst (AsksAll outs u) now all))) (go u q does);
+  commits = λ u q m j does now left. ⊎_elim (λ old. more (want_of_commit u m j) (its.commits u old.0 m j old.1 (old.2 ∙ now) left))
+      (λ all. asked (want_of_commit u m j) (a_commit u m j left (subst (AsksAll outs u) now all))) (go u q does);
+}
   where
-    asked : AsksIn outs (want_of_call u s) → HasWay (Then F n outs) n (want_of_call u s)
-    asked a = record { post = post_of n (next_node s) a.message; under_way = inr (refl, a.sent); brings = Asking refl refl a.asks }
+    more : (w : Want) → HasWay F n w → HasWay (Then F n outs) n w
+    more w h = record { post = h.post; under_way = inl h.under_way; brings = h.brings }
+
+    asked : (w : Want) → AsksIn outs w → HasWay (Then F n outs) n w
+    asked w a = record { post = post_of n w.node a.message; under_way = inr (refl, a.sent); brings = Asking refl refl a.asks }
+
+    a_call : (u : Uid) (s : Steps) → AsksAll outs u (Calling s) → AsksIn outs (want_of_call u s)
+    a_call u s a = a
+
+    a_commit : (u : Uid) (m : Machine) (j : ℕ) → has (left_of m) j ≡ true → AsksAll outs u (Committing m) → AsksIn outs
+        (want_of_commit u m j)
+    a_commit u m j left a = a j left
 
 more_asked : (front outs : List Effect) (x : Want) → AsksIn outs x → AsksIn (front ++ outs) x
 more_asked front outs x a = record { message = a.message; sent = in_right (Effect.Send x.node a.message) front outs a.sent; asks = a.asks }
@@ -230,7 +259,8 @@ commit_so u (Aborts why p) intents c fresh = end_so u ending.Abort c (step_commi
 
 moved_so : (u : Uid) (m : Marked) (intents : List (Uid × Intent)) (c : Coord) → IsFresh u m.step →
     GoOn c (moved_commit u m intents c).part (moved_commit u m intents c).outs
-moved_so u m intents c fresh = behind_lines c (moved_commit u m intents c).part (mark_lines u m.marks c) (step_commit u m.step intents c).outs
+moved_so u m intents c fresh = behind_lines c (moved_commit u m intents c).part (mark_lines u m.marks c)
+    (step_commit u m.step intents c).outs
     (commit_so u m.step intents c fresh)
 
 confirm_fresh : (u : Uid) (used : List Used) (p : Plan) → actor p.path ≡ u → IsFresh u (commit.begin_confirm used p)
@@ -255,17 +285,21 @@ given_fresh u (Preparing p left) who = let q = commit.marks_stores left p in
     confirm_fresh u q.used q (ap actor (marked_path left p) ∙ who)
 given_fresh u (Confirming p) who = tt
 
-action_so : (b : Branch) (intents : List (Uid × Intent)) (c : Coord) → GoOn c (commit_action b intents c).part (commit_action b intents c).outs
+action_so : (b : Branch) (intents : List (Uid × Intent)) (c : Coord) → GoOn c (commit_action b intents c).part
+    (commit_action b intents c).outs
 action_so b intents c = by b.doomed
   where
     p : Plan
     p = plan_for b.path (last_req (doing_of (actor b.path) c)) (root_at (root_of b.path) c) c
 
     top : GoOn c (commit_top b.path intents c).part (commit_top b.path intents c).outs
-    top = let t = moved_commit (actor b.path) (commit.start (plan_for b.path (last_req (doing_of (actor b.path) c)) (root_at (root_of b.path) c) c))
+    top = let t = moved_commit (actor b.path) (commit.start (plan_for b.path (last_req (doing_of (actor b.path) c))
+        (root_at (root_of b.path) c) c))
         intents c in behind_lines c t.part (says (actor b.path) body.Committing c) t.outs
-        (moved_so (actor b.path) (commit.start (plan_for b.path (last_req (doing_of (actor b.path) c)) (root_at (root_of b.path) c) c)) intents c
-        (vote_fresh (actor b.path) (commit.servers_of (plan_for b.path (last_req (doing_of (actor b.path) c)) (root_at (root_of b.path) c) c))
+        (moved_so (actor b.path) (commit.start (plan_for b.path (last_req (doing_of (actor b.path) c)) (root_at (root_of b.path) c) c))
+        intents c
+        (vote_fresh (actor b.path) (commit.servers_of (plan_for b.path (last_req (doing_of (actor b.path) c))
+        (root_at (root_of b.path) c) c))
         (plan_for b.path (last_req (doing_of (actor b.path) c)) (root_at (root_of b.path) c) c) refl))
 
     kinds : (k : Kind) → GoOn c (commit_open b intents c k).part (commit_open b intents c k).outs

@@ -126,7 +126,7 @@ module _ (hd : Header) (form : HeaderInForm hd) (g : History) (p : Past) (w : Wo
     f = acting.stands (let h = s.base.base.halts in see h.sent w) (let h = s.base.base.halts in h.holds) k n t there live u d does
 
     way : (x : Post) × IsFramed w.frames x × (x.from ≡ k) × (x.to ≡ next_node q) × Terms.AsksFor (Terms.want_of_call u q) x.message
-    way = framed_way w.frames k u q is (let z = s.ways on in z.calls k n t there live u d q does now is)
+    way = framed_way w.frames k u q is (let z = s.ways on in let c = z.calls k n t there live in c.calls u d q does now is)
 
     abbrev post : Post
     post = way.0

@@ -445,8 +445,14 @@ module _ (hd : Header) (form : HeaderInForm hd) where
           AreUnderWay k t.coord (IsUnderWay []) × Flags (Doomed (at_start st)) t.coord.tree × AreAsked k t.coord []
       new k a t there live = subst (λ (x : Parts). AreUnderWay k x.coord (IsUnderWay []) × Flags (Doomed (at_start st)) x.coord.tree
           × AreAsked k x.coord [])
-          (first_up hd st k a t there live)
-          ((λ u q s does now is. absurd (no_doing _ u.num q does)), flags_new (Doomed (at_start st)) _ _, (λ x apart on. none_waits x on))
+          (first_up hd st k a t there live) (
+            record {
+              calls = λ u q s does now is. absurd (no_doing _ u.num q does);
+              commits = λ u q m j does now left. absurd (no_doing _ u.num q does);
+            },
+            flags_new (Doomed (at_start st)) _ _,
+            (λ x apart on. none_waits x on),
+          )
         where
           none_waits : {A : Type 0} (x : Want) → Waits (let v = parts_in k (st.incs k + 1) (disk_by hd st k) in v.coord) x → A
           none_waits x (Calls u q s does now is) = absurd (no_doing _ u.num q does)

@@ -8,7 +8,7 @@ use Words.{Head, Header, Kind, Label}
 use Words.{Message, Uid, asks, Reply, Effect, Say, Send, Disk, Handled, Parts, Ran, Took, Void, taken, handle, most_rounds, next_round, ran}
 use Words.{rounds, whole, with_coord}
 use Words.{again_all, begin_action, tick_outs, heard, Coord, doing_of, Doing, Steps, Input, Node, Step, acts, handled_step, node_did}
-use Words.{only_says}
+use Words.{Machine, only_says}
 use Words.{parent_of, parts_in, refusal_at, refusal_up, restart_outs, step, step_unless, void_step, Tree, at_place, begun, new_tree}
 use Words.{set_place, Arm, Frame}
 use Words.{World, armed, count_works, cut, disarmed, done_step, frames_with, halted_at, halted_outs, most_frames, put, sends, set_node}
@@ -17,7 +17,9 @@ use Words.body
 use Words.input
 use Words.list as members
 use Rattle.arj_law_runs.proofs.Terms
-use Terms.{AreBrought, Asking, HasWay, Want, Holds, In, IsGood, KeepsAsked, Up, Walks, at, is_act, place_same, taken_meant, up, want_of_call}
+use Terms.{AreBrought, Asking, HasWay, Want, Holds, In, IsGood, KeepsAsked, Up, Walks, at, is_act, place_same, taken_meant, up}
+use Terms.{want_of_call}
+use Terms.{want_of_commit}
 use Terms.{AnswersWaits}
 use Rattle.arj_journal.specs.ScriptForm.{HeaderInForm}
 use Rattle.arj_law_parts.specs.moves.Keeps.{AsksNode}
@@ -34,7 +36,7 @@ use resting.Worlds.{nodes_in}
 use Rattle.arj_law_runs.specs.resting.Waits.{Answering, Brings}
 use Rattle.arj_protocol.specs.World.{overflows}
 use Rattle.arj_law_cause.proofs.waits.doomed.Asking
-use Asking.{AreUnderWay, IsOther, acts_go, again_goes, begins_go, from_brought, gone_on, to_brought}
+use Asking.{AreUnderWay, IsOther, acts_go, again_goes, begins_go, from_brought, gone_on, machine_kind, to_brought}
 use Rattle.arj_law_cause.proofs.waits.doomed.Wanting
 use Wanting.{AreAsked, Calls, Commits, Waits, WaitsOn, asked_landed, asked_more, go_waits, message_waits, whole_asks}
 use Rattle.arj_law_cause.proofs.waits.doomed.Sending
@@ -58,25 +60,32 @@ more_frames fs gs p (inl f) = inl (record { frame = has_left fs gs p f.frame; ap
 more_frames fs gs p (inr o) = inr o
 
 pub ways_to : (k : ℕ) (c : Coord) (F U : Post → Type 0) → ((p : Post) → F p → U p) → AreUnderWay k c F → AreUnderWay k c U
-ways_to k c F U to its u q s does now is =
-    let w = its u q s does now is in record { post = w.post; under_way = to w.post w.under_way; brings = w.brings }
+ways_to k c F U to its = record {
+  calls = λ u q s does now is. way (want_of_call u s) (its.calls u q s does now is);
+  commits = λ u q m j does now left. way (want_of_commit u m j) (its.commits u q m j does now left);
+}
+  where
+    way : (x : Want) → HasWay F k x → HasWay U k x
+    way x w = record { post = w.post; under_way = to w.post w.under_way; brings = w.brings }
 
 -- what a whole step sends has its frames
 landed : (n : ℕ) (c : Coord) (fs : List Frame) (es : List Effect) → NoneTo n es → overflows fs (sends n es) ≡ false →
     AreUnderWay n c (Then (IsUnderWay fs) n es) → AreUnderWay n c (IsUnderWay (frames_with fs (sends n es)))
-landed n c fs es none fits its u q s does now is = let w = its u q s does now is in there w.post w.brings w.under_way
+landed n c fs es none fits its = record {
+  calls = λ u q s does now is. way (want_of_call u s) (its.calls u q s does now is);
+  commits = λ u q m j does now left. way (want_of_commit u m j) (its.commits u q m j does now left);
+}
   where
     all : frames_with fs (sends n es) ≡ fs ++ sends n es
     all = all_fit fs (sends n es) fits
 
-    there : (p : Post) → Brings n (want_of_call u s) p → Then (IsUnderWay fs) n es p →
-        HasWay (IsUnderWay (frames_with fs (sends n es))) n (want_of_call u s)
-    there p b (inl old) = record {
+    there : (x : Want) (p : Post) → Brings n x p → Then (IsUnderWay fs) n es p → HasWay (IsUnderWay (frames_with fs (sends n es))) n x
+    there x p b (inl old) = record {
       post = p;
       under_way = subst (λ xs. IsUnderWay xs p) (sym all) (more_frames fs (sends n es) p old);
       brings = b;
     }
-    there p (Asking f t a) (inr sent) = record {
+    there x p (Asking f t a) (inr sent) = record {
       post = p;
       under_way = inl (record {
         frame = subst (λ xs. HasFrame xs p) (sym all) (has_right fs (sends n es) p
@@ -88,7 +97,10 @@ landed n c fs es none fits its u q s does now is = let w = its u q s does now is
       });
       brings = Asking f t a;
     }
-    there p (Answering f t a) (inr sent) = absurd (none p.message (subst (λ j. members.In (Send j p.message) es) t sent.1))
+    there x p (Answering f t a) (inr sent) = absurd (none p.message (subst (λ j. members.In (Send j p.message) es) t sent.1))
+
+    way : (x : Want) → HasWay (Then (IsUnderWay fs) n es) n x → HasWay (IsUnderWay (frames_with fs (sends n es))) n x
+    way x w = there x w.post w.brings w.under_way
 
 same_number : (n : ℕ) → (n == n) ≡ true
 same_number n = grind (arith, nat_tests)
@@ -130,6 +142,21 @@ framed_way fs k u s is way = by way.post way.brings way.under_way
         let no_way : ◌≡◌ {A = Option (Asked × Reply)} None (Some _) = sym (asks_no_answer p.message x.0 x.1 other.1)
         ∙ a.is in absurd (cc no_way)
 
+-- a commit waits for no answer of its own node
+pub never_own : (fs : List Frame) (k : ℕ) (u : Uid) (m : Machine) → HasWay (IsUnderWay fs) k (want_of_commit u m k) → ⊥
+never_own fs k u m way = by way.post way.brings way.under_way
+  where
+    by : (p : Post) → Brings k (want_of_commit u m k) p → IsUnderWay fs p → ⊥
+    by p (Asking f t a) (inl framed) = framed.apart (f ∙ sym t)
+    by p (Asking f t a) (inr other) =
+        let one = some_is (a.head, a.ask) other.0 (sym a.is ∙ other.1) in
+        let no_way : true ≡ false = sym (machine_kind m k) ∙ ap (Words.nat_le 6) (sym a.kind)
+        ∙ ap (λ (x : Head × Ask). Words.nat_le 6 (Words.ask_kind x.1)) one ∙ other.3 in cc no_way
+    by p (Answering f t a) (inl framed) = framed.apart (f ∙ sym t)
+    by p (Answering f t a) (inr other) = let x = other.0 in
+        let no_way : ◌≡◌ {A = Option (Asked × Reply)} None (Some _) = sym (asks_no_answer p.message x.0 x.1 other.1)
+        ∙ a.is in cc no_way
+
 -- what an input to this node rests on, where these messages were sent
 abbrev pub Comes : Header → List Post → ℕ → Input → Type 0
 Comes hd sent k (input.Frame j from m) = IfSome m (λ x. In (post_of from k x) sent)
@@ -164,8 +191,8 @@ module _ (hd : Header) (form : HeaderInForm hd) (P : Tree → Type 0) (hears : (
   pub known_of : (w : World) → Holds hd (λ M. AllKnown hd M × IsGood M) w → IsKnown w
   known_of w h = record { sent = h.sent; header = h.stands.header; numbers = h.stands.numbers; holds = h.holds }
 
-  -- Each call at a node that is up has what answers it under way, each tree there is so, and a frame asks for all that is waited for of
-  -- other nodes.
+  -- Each call and commit at a node that is up has what answers it under way, each tree there is so, and a frame asks for all that is waited
+  -- for of other nodes.
   pub record Stands (w : World) : Type 0 where
     pub calls : (k : ℕ) (a : Node) (t : Parts) → at_place k w.nodes ≡ Some a → a.live ≡ Some t → AreUnderWay k t.coord (IsUnderWay w.frames)
     pub trees : (k : ℕ) (a : Node) (t : Parts) → at_place k w.nodes ≡ Some a → a.live ≡ Some t → P t.coord.tree
@@ -481,7 +508,8 @@ module _ (hd : Header) (form : HeaderInForm hd) (P : Tree → Type 0) (hears : (
       act_leaves i is asks_node free may = let did = acts i d.intents t.coord in
           whole_leaves d (Some t) there (with_coord t did.part) [] did.outs (no_sends k w z)
           (keeps.act w.event k d t i (see known.sent w) is asks_node free its_known)
-          (gone_on k t.coord did.part did.outs (IsUnderWay w.frames) (acts_go i d.intents t.coord (homes k d t (see known.sent w) its_known) is)
+          (gone_on k t.coord did.part did.outs (IsUnderWay w.frames)
+          (acts_go i d.intents t.coord (homes k d t (see known.sent w) its_known) is)
           its_calls) (may is free its_tree) t.coord
           (go_waits t.coord did.part did.outs (acts_go i d.intents t.coord (homes k d t (see known.sent w) its_known) is)) its_asked
 
@@ -518,7 +546,11 @@ module _ (hd : Header) (form : HeaderInForm hd) (P : Tree → Type 0) (hears : (
         let v = parts_in k (d.inc + 1) d in
         whole_leaves d None there v [] (restart_outs hd k (d.inc + 1) d) (no_sends k w z)
         (keeps.restart w.event k d (see known.sent w) (seen_at d None there))
-        (λ u q s does now is. absurd (none_there u q does)) (fresh k (d.inc + 1)) (let v = parts_in k (d.inc + 1) d in v.coord)
+        (record {
+          calls = λ u q s does now is. absurd (none_there u q does);
+          commits = λ u q m j does now left. absurd (none_there u q does);
+        })
+        (fresh k (d.inc + 1)) (let v = parts_in k (d.inc + 1) d in v.coord)
         (λ x on. inl on) (λ x apart on. none_waits x on)
       where
         none_there : (u : Uid) (q : Doing) → doing_of u (let v = parts_in k (d.inc + 1) d in v.coord) ≡ Some q → ⊥

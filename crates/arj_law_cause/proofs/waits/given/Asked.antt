@@ -3,12 +3,13 @@
 use Rattle.arj_law_parts.proofs.Words
 use Words.{◌≡◌, ◌∙◌, ◌==◌, ◌&&◌, ◌||◌, ◌≤◌, ℕ, Bool, true, false, if◌then◌else◌, List, [], ◌∷◌, length, Option, Some, None}
 use Words.{refl, sym, ap, subst, inl, inr, ⊎_elim, arith, nat_tests, nat_le, list_any, eqb-true, and_parts, In, Ask, Body, Head, Header}
-use Words.{Message, Uid, Asked, asks, actor, ask_kind, frame_kind, name, is_empty, At, AtActivate, AtBind, AtInvoke, AtLoad, AtNote, Goal}
-use Words.{Calling, Committing, Idle, Now, Doing, doing_of, Steps, Machine, Confirming, Preparing, Voting, ask_at, ask_of, left_of, has}
+use Words.{Line, Plan, ◌++◌, Message, Uid, Asked, asks, actor, ask_kind, frame_kind, name, is_empty}
+use Words.{Calling, Committing, Idle, Now, Doing, doing_of, Steps, Machine, Confirming, Preparing, Voting, left_of, has}
 use Words.{next_node, nodes_given_up, at_place, Node, Parts, World, see, is_waiting_now, is_committing_now}
 use Words.ask
 use Words.body
 use Words.commit
+use Words.frame
 use Words.event
 use Words.message
 use Rattle.arj_law_parts.proofs.parts.Numbered.{AreUp}
@@ -29,9 +30,11 @@ use Rattle.arj_law_cause.proofs.confirm.Called.{is_called}
 use Rattle.arj_law_cause.proofs.confirm.Spans as spans
 use Rattle.arj_law_cause.proofs.follow.lines.Rising.{IsRising}
 use Rattle.arj_law_cause.proofs.follow.lines.Steps.{given_up_of}
+use Rattle.arj_law_cause.proofs.waits.doomed.Asking.{machine_kind, step_kind}
 use Rattle.arj_law_cause.proofs.waits.doomed.Giving.{frame_sent}
 use Rattle.arj_law_cause.proofs.waits.doomed.Spans.{AreLined, IsLined}
 use Rattle.arj_law_cause.proofs.waits.doomed.Standing.{Stands}
+use Rattle.arj_law_cause.proofs.waits.doomed.Stepping.{never_own}
 use Rattle.arj_law_cause.proofs.waits.doomed.Wanting as wanting
 use Rattle.arj_law_cause.proofs.waits.doomed.Wanting.{IsAskedBy, Waits}
 use Rattle.arj_law_cause.proofs.waits.doomed.Behind.{IsBehind, is_of_commit}
@@ -95,17 +98,35 @@ of_commit (ask.Vote i ties ends) high = refl
 of_commit (ask.Prepare states) high = refl
 of_commit (ask.Confirm grants excluded included) high = refl
 
-step_kind : (x : ℕ) (g : Goal) (at : At) → nat_le 6 (ask_kind (ask_at x g [] at)) ≡ false
-step_kind x g (AtBind avoid) = refl
-step_kind x g (AtLoad k s rest) = refl
-step_kind x g (AtActivate k st) = refl
-step_kind x g (AtNote k i) = refl
-step_kind x g (AtInvoke k i) = refl
+-- a request of the kind of a Prepare is one
+prepare_frame : (m : Message) (h : Head) (a : Ask) → asks m ≡ Some (h, a) → ask_kind a ≡ 7 → frame_kind m ≡ frame.Prepare
+prepare_frame m h a is seven = by m is
+  where
+    apart : {B : Type 0} (g : Head) (b : Ask) (n : ℕ) → ask_kind b ≡ n → (n ≡ 7 → ⊥) →
+        ◌≡◌ {A = Option (Head × Ask)} (Some (g, b)) (Some (h, a)) → B
+    apart g b n kind isnt same =
+        let one : ◌≡◌ {A = Head × Ask} (g, b) (h, a) = cc same in
+        absurd (isnt (sym kind ∙ ap (λ (x : Head × Ask). ask_kind x.1) one ∙ seven))
 
-machine_kind : (m : Machine) (n : ℕ) → nat_le 6 (ask_kind (ask_of m n)) ≡ true
-machine_kind (Voting p left) n = refl
-machine_kind (Preparing p left) n = refl
-machine_kind (Confirming p) n = refl
+    by : (m : Message) → asks m ≡ Some (h, a) → frame_kind m ≡ frame.Prepare
+    by (message.Prepare x) is = refl
+    by (message.Bind x) is = apart _ _ 1 refl (λ e. omega (arith, e)) is
+    by (message.Load x) is = apart _ _ 2 refl (λ e. omega (arith, e)) is
+    by (message.Activate x) is = apart _ _ 3 refl (λ e. omega (arith, e)) is
+    by (message.RecordMsg x) is = apart _ _ 4 refl (λ e. omega (arith, e)) is
+    by (message.Invoke x) is = apart _ _ 5 refl (λ e. omega (arith, e)) is
+    by (message.Vote x) is = apart _ _ 6 refl (λ e. omega (arith, e)) is
+    by (message.Confirm x) is = apart _ _ 8 refl (λ e. omega (arith, e)) is
+    by x is = absurd (cc is)
+
+-- by these lines the action sent the node a Prepare behind the call of its commit
+pub record WasSent (lines : List Line) (u : Uid) (n : ℕ) : Type 0 where
+  pub before : List Line
+  pub line : Line
+  pub after : List Line
+  pub are : lines ≡ before ++ line ∷ after
+  pub says : is_frame u.node n (frame.Prepare ∷ []) line.body ≡ true
+  pub called : is_called before u
 
 -- ---- nodes that a giveup names
 
@@ -119,7 +140,7 @@ given_rise (Committing (Confirming p)) rise = (tt, tt)
 same_number : (a b : ℕ) → a ≡ b → (a == b) ≡ true
 same_number a b is = grind (arith, nat_tests, is)
 
-in_has : (ns : List ℕ) (j : ℕ) → In j ns → has ns j ≡ true
+pub in_has : (ns : List ℕ) (j : ℕ) → In j ns → has ns j ≡ true
 in_has [] j i = absurd i
 in_has (n ∷ ns) j (inl same) = λ i. same_number n j same i || has ns j
 in_has (n ∷ ns) j (inr i) = by (n == j) (in_has ns j i)
@@ -285,6 +306,35 @@ module _ (hd : Header) (form : HeaderInForm hd) (g : History) (p : Past) (w : Wo
 
         called_at : call_place (committings w.lines) (name d.label) ≡ Some place.0
         called_at = sym (λ i. if under i then call_place (committings w.lines) (name d.label) else None) ∙ place.1
+
+  -- a commit that prepares has sent a Prepare to each store that hasn't answered, none of them its own node
+  module _ (plan : Plan) (left : List ℕ) (now : d.now ≡ Committing (Preparing plan left)) (j : ℕ) (there_is : has left j ≡ true) where
+    apart_so : j ≡ k → ⊥
+    apart_so same = let z = s.ways on in let c = z.calls k n t there live in
+        never_own w.frames k u (Preparing plan left) (c.commits u d (Preparing plan left) k does now (subst (λ i. has left i ≡ true) same
+        there_is))
+
+    pub prepare_sent : WasSent w.lines (let a = f.act in a.uid) j
+    prepare_sent = record {
+      before = l.before;
+      line = l.line;
+      after = l.after;
+      are = l.are;
+      says = is_line (want_of_commit u (Preparing plan left) j) apart_so way (frame.Prepare ∷ [])
+          (ap (λ x. list_any (same_frame x) (frame.Prepare ∷ [])) (prepare_frame way.post.message asks_it.head asks_it.ask asks_it.is
+          asks_it.kind)) (let z = l.line in z.body) l.number l.says;
+      called = subst (is_called l.before) (ap (λ (x : Asked). x.act) asks_it.by ∙ sym f.uid) l.called;
+    }
+      where
+        way : IsAskedBy k (want_of_commit u (Preparing plan left) j) w.frames
+        way = asked_by (want_of_commit u (Preparing plan left) j) apart_so
+            (wanting.Commits u d (Preparing plan left) j does now there_is refl)
+
+        asks_it : AsksFor (want_of_commit u (Preparing plan left) j) way.post.message
+        asks_it = way.asks
+
+        l : IsBehind w.lines way.post (actor (let h = asks_it.head in h.path))
+        l = behind (want_of_commit u (Preparing plan left) j) apart_so way (of_commit asks_it.ask (ap (nat_le 6) asks_it.kind))
 
   -- ---- all of them
 

@@ -24,10 +24,10 @@ use Rattle.arj_law_cause.specs.follow.lines.Lines.{BeginsCommitSo, BeginsSo, Has
 use Rattle.arj_law_cause.specs.kinds.Kinds.{is_node_given_up}
 use Rattle.arj_law_cause.specs.kinds.Rows.{row}
 
-abbrev is_other : Body → Bool
+abbrev pub is_other : Body → Bool
 is_other b = not (is_node_given_up b)
 
-abbrev Others : List Body → Type 0
+abbrev pub Others : List Body → Type 0
 Others bs = list_all is_other bs ≡ true
 
 -- what names none passes
@@ -149,8 +149,11 @@ module _ (hd : Header) (past : Past) where
   own_other (event.Show x) off own its = ap (list_all is_other) its
 
   -- all lines of an event that isn't one
+  pub none_given : (e : Event) (bodies : List Body) → is_give_up e ≡ false → HasLines hd past e bodies → Others bodies
+  none_given e bodies off h = ap (list_all is_other) h.parts
+      ∙ both h.own (h.others ++ h.last) (own_other e off h.own h.begins)
+      (both h.others h.last (all_may e h.others h.only) (ends_other e h.own h.last h.ends))
+
   pub lines_other : (e : Event) (bodies : List Body) → is_give_up e ≡ false → HasLines hd past e bodies →
       are_so (row (λ g. is_node_given_up)) (here_at hd past e bodies) bodies ≡ true
-  lines_other e bodies off h = others_so (here_at hd past e bodies) bodies (ap (list_all is_other) h.parts
-      ∙ both h.own (h.others ++ h.last) (own_other e off h.own h.begins)
-      (both h.others h.last (all_may e h.others h.only) (ends_other e h.own h.last h.ends)))
+  lines_other e bodies off h = others_so (here_at hd past e bodies) bodies (none_given e bodies off h)
