@@ -1,5 +1,5 @@
 -- The put of a Pending file, or of the first segment, done or not: from what is kept before the call to what is kept after it.
-use Rattle.std.proofs.Common.{◌≡◌, ◌≢◌, ◌⊎◌, ◌∙◌, ℕ, List, [], ◌∷◌, ◌≤◌, arith, refl, sym, ap, subst, inl, inr, ⊎_elim, map, length, Option}
+use Rattle.std.proofs.Common.{◌≡◌, ◌≢◌, ◌⊎◌, ◌∙◌, ℕ, List, [], ◌∷◌, ◌<◌, ◌≤◌, arith, refl, sym, ap, subst, inl, inr, ⊎_elim, map, length, Option}
 use Rattle.std.proofs.Common.{Some, None}
 use Rattle.std.specs.Prelude.{Contains, option_map}
 use Rattle.std.specs.List.{AllByRecursion, IsDistinct}
@@ -94,10 +94,10 @@ module _ (role : Role) (states : List ObjectState) (old : FileMap) (none : (q : 
       ⊎_elim (λ (same : new (slot.Segment role 1) ≡ old (slot.Segment role 1)). (0, only_none role new (still_none puts.others same)))
       (λ (here : new (slot.Segment role 1) ≡ Some bytes). first_whole role states old new none distinct count bytes is whole puts.others here) puts.here
 
-  pub first_end : PutsOrNot old new (slot.Segment role 1) bytes → IsFormed new role
-  first_end puts =
+  pub first_end : 0 < length states → PutsOrNot old new (slot.Segment role 1) bytes → IsFormed new role
+  first_end some puts =
       ⊎_elim (λ (same : new (slot.Segment role 1) ≡ old (slot.Segment role 1)). formed_of_none role new (still_none puts.others same))
-      (λ (here : new (slot.Segment role 1) ≡ Some bytes). first_formed role states old new none distinct count bytes is whole puts.others here) puts.here
+      (λ (here : new (slot.Segment role 1) ≡ Some bytes). first_formed role states old new none distinct count bytes is whole puts.others here some) puts.here
 
   module _ (puts : Puts old new (slot.Segment role 1) bytes) where
     pub first_pair : HasOnly (pair_of new role) states

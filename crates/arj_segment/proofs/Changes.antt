@@ -1,7 +1,7 @@
 -- What the changes of files leave: the pair, the forms of the files, and what is kept in memory.
-use Rattle.std.proofs.Common.{◌≡◌, ◌≢◌, ◌⊎◌, ◌∙◌, ◌==◌, true, false, true≢false, ℕ, List, [], ◌∷◌, ◌++◌, ◌<◌, arith, refl, sym, ap, subst}
+use Rattle.std.proofs.Common.{◌≡◌, ◌≢◌, ◌⊎◌, ◌∙◌, ◌==◌, true, false, true≢false, ℕ, List, [], ◌∷◌, ◌++◌, ◌<◌, ◌≤◌, arith, refl, sym, ap, subst}
 use Rattle.std.proofs.Common.{inl, inr, ⊎_elim, Option, Some, None}
-use Rattle.std.specs.Prelude.{is_some, IfSome, Contains, option_map, if◌then◌else◌}
+use Rattle.std.specs.Prelude.{is_some, IsSome, IfSome, Contains, option_map, if◌then◌else◌}
 use Rattle.std.specs.List.{AllByRecursion}
 use Rattle.std.specs.Ordering.{nat_cmp}
 use Rattle.std.specs.declared.cmp.Ordering.TheVariants.{Less}
@@ -12,6 +12,7 @@ use Rattle.arj_disk.specs.Disk.{Removes, Renames, Same}
 use Rattle.arj_disk.specs.FileMap.{FileMap}
 use Rattle.arj_disk.specs.Says.{names, new_of}
 use Rattle.arj_disk.specs.declared.slot.Role.{Role}
+use Rattle.arj_disk.specs.declared.slot.Slot.{Slot}
 use Rattle.arj_disk.specs.declared.slot.Slot.TheVariants as slot
 use Rattle.arj_segment_file.specs.Format.{IsSegment, states_in}
 use Rattle.arj_store.proofs.Known.{known_dropped, known_moved}
@@ -24,9 +25,10 @@ use Rattle.arj_segment.proofs.Held.{IsAbove, SameBut, holds, held_put, place_put
 use Rattle.arj_segment.proofs.Numbers.{all_of, less_is}
 use Rattle.arj_segment.proofs.Picked.{all_map, sorted_push}
 use Rattle.arj_segment.proofs.Pend.{among_objects}
-use Rattle.arj_segment.specs.Formed.{IsFormed}
-use Rattle.arj_segment.specs.Says.{numbers, pair_of, pend, place, segments, state_in}
+use Rattle.arj_segment.specs.Formed.{AreInPlace, IsFormed, is_old}
+use Rattle.arj_segment.specs.Says.{held, numbers, pair_of, pend, place, segments, state_in}
 use Rattle.arj_segment.specs.Tables.{AreNumbers, KeepsPlaces, SetsEach}
+use Rattle.arj_segment.specs.declared.limits.TheConstants.{MOST_NUMBER}
 
 -- files that are the same everywhere are the same
 pub same_files : (old new : FileMap) → Same old new → new ≡ old
@@ -53,11 +55,18 @@ above_all segment ks k are below j from within = by (segment j) refl
 
 module _ (old new : ℕ →
     Option (List ℕ)) (ks : List ℕ) (k : ℕ) (within : k < numbers) (are : AreNumbers old ks) (below : AllByRecursion (λ j. j < k) ks) (same : SameBut old new k) where
+  stays : (js : List ℕ) → AllByRecursion (λ j. IsSome (old j)) js → AllByRecursion (λ j. j < numbers) js → AllByRecursion (λ j. j < k) js →
+      AllByRecursion (λ j. IsSome (new j)) js
+  stays [] some small under = tt
+  stays (j ∷ js) some small under =
+      (ap is_some (same j small.0 (λ e. omega (arith, e, under.0))) ∙ some.0, stays js some.1 small.1 under.1)
+
   -- one more segment above all others
-  pub one_more : AreNumbers new (ks ++ k ∷ [])
-  one_more = record {
-    there = λ j less some. ⊎_elim (λ (e : j ≡ k). subst (Contains (ks ++ k ∷ [])) (sym e) (Contains-push ks k))
-        (λ (other : j ≢ k). Contains-append_left ks (k ∷ []) j (are.there j less (sym (ap is_some (same j less other)) ∙ some))) (number_cases j k);
+  pub one_more : IsSome (new k) → AreNumbers new (ks ++ k ∷ [])
+  one_more some = record {
+    only = all_more (λ j. IsSome (new j)) ks k (stays ks are.only are.below below) some;
+    there = λ j less is. ⊎_elim (λ (e : j ≡ k). subst (Contains (ks ++ k ∷ [])) (sym e) (Contains-push ks k))
+        (λ (other : j ≢ k). Contains-append_left ks (k ∷ []) j (are.there j less (sym (ap is_some (same j less other)) ∙ is))) (number_cases j k);
     below = all_more (λ j. j < numbers) ks k are.below within;
     rises = sorted_push nat_cmp ks k are.rises (all_map (λ j. j < k) (λ j. nat_cmp j k ≡ Less) ks (λ j. less_is j k) below);
   }
@@ -68,7 +77,7 @@ module _ (old new : ℕ →
       → KeepsPlaces new places' (ks ++ k ∷ [])
   places_more bytes here places places' keeps each = record {
     places_are = λ u. each u ∙ by u (new_of (states_in bytes) u) refl ∙ sym (place_put old new k within (above_all old ks k are below) same u ∙ ap (λ o. place_after (state_in u o) k (place old u)) here);
-    numbers_are = one_more;
+    numbers_are = one_more (ap is_some here);
   }
     where
       by : (u : Uid) (o : Option (List ℕ)) → new_of (states_in bytes) u ≡ o →
@@ -83,13 +92,18 @@ pub formed_from : (role : Role) (old new : FileMap) → IsFormed old role →
     ((k : ℕ) → k < numbers → IfSome (new (slot.Segment role k)) (IsSegment role)) →
     ((a : Uid) → IfSome (new (slot.Pending role a)) (IsSegment role))
     → ((a u : Uid) → names (pend new role a) u → names (pend old role a) u) →
-    ((u : Uid) → IsKnown (pair_of new role) u → IsKnown (pair_of old role) u) → IsFormed new role
-formed_from role old new formed segments pendings named known = record {
+    ((u : Uid) → IsKnown (pair_of new role) u → IsKnown (pair_of old role) u) → AreInPlace new role → IsFormed new role
+formed_from role old new formed segments pendings named known in_place = record {
   segments = segments;
   pendings = pendings;
   once = λ a b u is is'. formed.once a b u (named a u is) (named b u is');
   few = λ us distinct each. formed.few us distinct (λ u is. known u (each u is));
+  in_place = in_place;
 }
+
+-- a file of an old kind isn't one of another kind
+pub not_old : (q s : Slot) → is_old q ≡ true → is_old s ≡ false → q ≢ s
+not_old q s is other e = true≢false (sym is ∙ ap is_old e ∙ other)
 
 pub in_form : (role : Role) (old new : Option (List ℕ)) → new ≡ old → IfSome old (IsSegment role) → IfSome new (IsSegment role)
 in_form role old new same = subst (λ o. IfSome o (IsSegment role)) (sym same)
@@ -120,14 +134,26 @@ module _ (role : Role) (act : Uid) (old new : FileMap) (formed : IsFormed old ro
     others = λ a other. ap (option_map states_in) (commit_pending a other);
   }
 
-  pub commit_formed : IsFormed new role
-  commit_formed = formed_from role old new formed
+  -- where something is committed then
+  commit_in_place : k ≤ MOST_NUMBER → (((u : Uid) → held new role u ≡ None) → ⊥) → AreInPlace new role
+  commit_in_place low full = (let p = formed.in_place in record {
+    old = λ q is own. renames.others q (not_old q (slot.Pending role act) is refl) (not_old q (slot.Segment role k) is refl) ∙ p.old q is own;
+    low = λ j above. renames.others (slot.Segment role j) (λ e. cc) (λ e. apart j above cc) ∙ p.low j above;
+    bare = λ nothing j. absurd (full nothing);
+  })
+    where
+      apart : (j : ℕ) → MOST_NUMBER < j → j ≡ k → ⊥
+      apart j above e = omega (arith, above, e, low)
+
+  pub commit_formed : k ≤ MOST_NUMBER → (((u : Uid) → held new role u ≡ None) → ⊥) → IsFormed new role
+  commit_formed low full = formed_from role old new formed
       (λ j less. ⊎_elim (λ (e : j ≡ k). in_form role (old (slot.Pending role act)) (new (slot.Segment role j)) (ap (λ n. new (slot.Segment role n)) e ∙ renames.here) (formed.pendings act))
       (λ (other : j ≢ k). in_form role (old (slot.Segment role j)) (new (slot.Segment role j)) (commit_segments j less other) (formed.segments j less)) (number_cases j k))
       (λ a. ⊎_elim (λ (e : a ≡ act). in_form role None (new (slot.Pending role a)) (ap (λ b. new (slot.Pending role b)) e ∙ commit_gone) tt)
       (λ (other : a ≢ act). in_form role (old (slot.Pending role a)) (new (slot.Pending role a)) (commit_pending a other) (formed.pendings a)) (uid_cases a act))
       (λ a u is. ⊎_elim (λ (e : a ≡ act). absurd (subst (λ o. names o u) (ap (pend new role) e ∙ commit_moves.gone) is)) (λ (other : a ≢ act). subst (λ o. names o u) (commit_moves.others a other) is) (uid_cases a act))
       (known_moved (pair_of old role) (pair_of new role) act commit_moves)
+      (commit_in_place low full)
 
 -- ---- an abort
 
@@ -157,3 +183,8 @@ module _ (role : Role) (act : Uid) (old new : FileMap) (formed : IsFormed old ro
       (λ (other : a ≢ act). in_form role (old (slot.Pending role a)) (new (slot.Pending role a)) (abort_pending a other) (formed.pendings a)) (uid_cases a act))
       (λ a u is. ⊎_elim (λ (e : a ≡ act). absurd (subst (λ o. names o u) (ap (pend new role) e ∙ abort_drops.gone) is)) (λ (other : a ≢ act). subst (λ o. names o u) (abort_drops.others a other) is) (uid_cases a act))
       (known_dropped (pair_of old role) (pair_of new role) act abort_drops)
+      (let p = formed.in_place in record {
+        old = λ q is own. removes.others q (not_old q (slot.Pending role act) is refl) ∙ p.old q is own;
+        low = λ j above. abort_segments j ∙ p.low j above;
+        bare = λ nothing j. abort_segments j ∙ p.bare (λ u. sym (same_holds u) ∙ nothing u) j;
+      })

@@ -19,7 +19,7 @@ use Rattle.arj_segment.specs.declared.kept.Kept.{Kept}
 
 no_numbers : (segment : ℕ → Option (List ℕ)) → ((k : ℕ) → segment k ≡ None) → AreNumbers segment []
 unfolding IsStrictlySortedBy
-no_numbers segment none = record { there = λ k within some. absurd (true≢false (sym some ∙ ap is_some (none k))); below = tt; rises = tt }
+no_numbers segment none = record { there = λ k within some. absurd (true≢false (sym some ∙ ap is_some (none k))); only = tt; below = tt; rises = tt }
 
 pub keeps_nothing : (role : Role) (file : FileMap) → ((q : Slot) → slot_role q ≡ Some role → file q ≡ None) → (kept : Kept) →
     ((a : Uid) → at kept.actions a ≡ None) → ((u : Uid) → at kept.holdings u ≡ None) → ((u : Uid) → at kept.places u ≡ None) →

@@ -1,6 +1,6 @@
 -- What a recovery finds.
 use Rattle.std.proofs.Common.{◌≡◌, ◌<◌, ℕ, List, [], ◌∷◌, refl, Option, Some}
-use Rattle.std.specs.Prelude.{Contains}
+use Rattle.std.specs.Prelude.{Contains, IsSome}
 use Rattle.std.specs.List.{AllByRecursion}
 use Rattle.std.specs.List.Sorted.{IsStrictlySortedBy}
 use Rattle.std.specs.Ordering.{nat_cmp}
@@ -14,6 +14,7 @@ use Rattle.arj_disk.specs.declared.slot.Slot.{Slot}
 use Rattle.arj_disk.specs.declared.slot.Slot.TheVariants as slot
 use Rattle.arj_store.specs.Pair.{FindsPair, IsHeld}
 use Rattle.arj_store.specs.Table.{AreValuesOf}
+use Rattle.arj_segment.proofs.Picked.{all_map}
 use Rattle.arj_segment.proofs.Valued.{each_held, every_held, values_sorted}
 use Rattle.arj_segment.specs.Says.{held, numbers, pair_of, pend, segments}
 use Rattle.arj_segment.specs.Tables.{AreNumbers, ListsPends, Unpacks}
@@ -38,7 +39,12 @@ found_pair role file table unpacks values are pends lists = record {
 
 -- the numbers among the names of a disk
 pub are_numbers : (file : FileMap) (role : Role) (names : List Slot) (ks : List ℕ) → Lists file names →
-    ((k : ℕ) → Contains names (slot.Segment role k) → Contains ks k) → AllByRecursion (λ k. k < numbers) ks → IsStrictlySortedBy nat_cmp ks
-    → AreNumbers (segments file role) ks
-are_numbers file role names ks lists there below rises =
-    record { there = λ k within some. there k ((lists.there (slot.Segment role k)).0 some); below = below; rises = rises }
+    ((k : ℕ) → Contains names (slot.Segment role k) → Contains ks k) → AllByRecursion (λ k. Contains names (slot.Segment role k)) ks
+    → AllByRecursion (λ k. k < numbers) ks → IsStrictlySortedBy nat_cmp ks → AreNumbers (segments file role) ks
+are_numbers file role names ks lists there only below rises = record {
+  there = λ k within some. there k ((lists.there (slot.Segment role k)).0 some);
+  only = all_map (λ k. Contains names (slot.Segment role k)) (λ k. IsSome (segments file role k)) ks
+      (λ k is. (lists.there (slot.Segment role k)).1 is) only;
+  below = below;
+  rises = rises;
+}

@@ -24,15 +24,16 @@ use Rattle.arj_store.proofs.Known.{same_known}
 use Rattle.arj_store.specs.Pair.{AreDistinct, IsKnown, SamePair, uid_of}
 use Rattle.arj_store.specs.Table.{AreValuesOf}
 use Rattle.arj_segment.proofs.Begun.{not_put}
-use Rattle.arj_segment.proofs.Changes.{above_all, formed_from, in_form, number_cases}
+use Rattle.arj_segment.proofs.Changes.{above_all, formed_from, in_form, not_old, number_cases}
 use Rattle.arj_segment.proofs.Held.{IsAbove, IsTop, SameBut, holds, merged_holds, merged_top, older_holds, older_place}
 use Rattle.arj_segment.proofs.Numbers.{all_of}
 use Rattle.arj_segment.proofs.Puts.{segment_others}
 use Rattle.arj_segment.proofs.Valued.{each_held, values_distinct, values_found}
-use Rattle.arj_segment.specs.Formed.{IsFormed}
+use Rattle.arj_segment.specs.Formed.{AreInPlace, IsFormed}
 use Rattle.arj_segment.specs.Says.{held, numbers, pair_of, pend, place, placed, segments, state_at, state_in}
 use Rattle.arj_segment.specs.Stays.{files_stay}
 use Rattle.arj_segment.specs.Steps.{AreGone, IsMerged, RemovesSome}
+use Rattle.arj_segment.specs.declared.limits.TheConstants.{MOST_NUMBER}
 use Rattle.arj_segment.specs.Tables.{AllInOne, AreNumbers, KeepsPend, KeepsPlaces, Unpacks}
 
 rises_one : (k : ℕ) → IsStrictlySortedBy nat_cmp (k ∷ [])
@@ -47,9 +48,16 @@ pair_then role old mid new first then =
 -- files in form with the pair of formed files are formed
 formed_same : (role : Role) (old new : FileMap) → IsFormed old role → SamePair (pair_of old role) (pair_of new role) →
     ((k : ℕ) → k < numbers → IfSome (new (slot.Segment role k)) (IsSegment role))
-    → ((a : Uid) → IfSome (new (slot.Pending role a)) (IsSegment role)) → IsFormed new role
-formed_same role old new formed same segs pends =
+    → ((a : Uid) → IfSome (new (slot.Pending role a)) (IsSegment role)) → AreInPlace new role → IsFormed new role
+formed_same role old new formed same segs pends in_place =
     formed_from role old new formed segs pends (λ a u. subst (λ o. names o u) (same.prepared a)) (same_known (pair_of old role) (pair_of new role) same)
+    in_place
+
+-- where there is a segment something is committed
+some_held : (role : Role) (file : FileMap) → AreInPlace file role → (ks : List ℕ) → AreNumbers (segments file role) ks → 0 < length ks →
+    ((u : Uid) → held file role u ≡ None) → ⊥
+some_held role file p [] are some nothing = omega (arith, some)
+some_held role file p (k ∷ ks) are some nothing = true≢false (sym are.only.0 ∙ ap is_some (p.bare nothing k))
 
 -- ---- the states of the merged segment
 
@@ -103,10 +111,11 @@ module _ (role : Role) (old : FileMap) (formed : IsFormed old role) (table : Uid
   abbrev pub merged_is : AllByRecursion FitsRow values → (bytes : List ℕ) → bytes ≡ segment_bytes values → IsSegment role bytes
   merged_is fit bytes written = record { states = values; fit = fit; count = merged_count; distinct = merged_apart; written = written }
 
-  pub is_merged : (ks : List ℕ) (k : ℕ) → k < numbers → AllByRecursion (λ j. j < k) ks → AllByRecursion FitsRow values → (bytes : List ℕ) →
+  pub is_merged : (ks : List ℕ) (k : ℕ) → k < numbers → k ≤ MOST_NUMBER → AllByRecursion (λ j. j < k) ks → AllByRecursion FitsRow values → (bytes : List ℕ) →
       bytes ≡ segment_bytes values → IsMerged role old ks k bytes
-  is_merged ks k within above fit bytes written = record {
+  is_merged ks k within low above fit bytes written = record {
     within = within;
+    low = low;
     above = above;
     form = merged_is fit bytes written;
     all = λ u. ap (λ es. new_of es u) (states_are role bytes (merged_is fit bytes written)) ∙ values_found (held old role) table unpacks values are u;
@@ -140,17 +149,28 @@ module _ (role : Role) (old : FileMap) (formed : IsFormed old role) (ks : List �
       pub put_top : IsTop (segments mid role) k
       put_top = merged_top (segments old role) (segments mid role) k m.within above mid_segments all_held
 
-      pub put_formed : IsFormed mid role
-      put_formed = formed_same role old mid formed put_pair
+      put_in_place : 0 < length ks → AreInPlace mid role
+      put_in_place some = (let p = formed.in_place in record {
+        old = λ q kind own. others q (not_old q (slot.Segment role k) kind refl) (not_old q slot.Tmp kind refl) ∙ p.old q kind own;
+        low = λ j over. others (slot.Segment role j) (λ e. apart j over cc) (λ e. cc) ∙ p.low j over;
+        bare = λ nothing j. absurd (some_held role old p ks numbers_are some (λ u. sym (put_pair.committed u) ∙ nothing u));
+      })
+        where
+          apart : (j : ℕ) → MOST_NUMBER < j → j ≡ k → ⊥
+          apart j over e = omega (arith, over, e, m.low)
+
+      pub put_formed : 0 < length ks → IsFormed mid role
+      put_formed some = formed_same role old mid formed put_pair
           (λ j less. ⊎_elim (λ (e : j ≡ k). in_form role (Some bytes) (mid (slot.Segment role j)) (ap (λ n. mid (slot.Segment role n)) e ∙ here) m.form)
           (λ (other : j ≢ k). in_form role (old (slot.Segment role j)) (mid (slot.Segment role j)) (mid_segments j less other) (formed.segments j less)) (number_cases j k))
           (λ a. in_form role (old (slot.Pending role a)) (mid (slot.Pending role a)) (mid_pending a) (formed.pendings a))
+          (put_in_place some)
 
   -- whether it is put or not
   module _ (mid : FileMap) (puts : PutsOrNot old mid (slot.Segment role k) bytes) where
-    pub put_or_not : IsFormed mid role × SamePair (pair_of old role) (pair_of mid role)
-    put_or_not = ⊎_elim (λ (same : mid (slot.Segment role k) ≡ old (slot.Segment role k)). files_stay role old mid (not_put role old mid (slot.Segment role k) puts.others same) formed)
-        (λ (here : mid (slot.Segment role k) ≡ Some bytes). (put_formed mid puts.others here, put_pair mid puts.others here)) puts.here
+    pub put_or_not : 0 < length ks → IsFormed mid role × SamePair (pair_of old role) (pair_of mid role)
+    put_or_not some = ⊎_elim (λ (same : mid (slot.Segment role k) ≡ old (slot.Segment role k)). files_stay role old mid (not_put role old mid (slot.Segment role k) puts.others same) formed)
+        (λ (here : mid (slot.Segment role k) ≡ Some bytes). (put_formed mid puts.others here some, put_pair mid puts.others here)) puts.here
 
   -- ---- older segments go
 
@@ -179,11 +199,20 @@ module _ (role : Role) (old : FileMap) (formed : IsFormed old role) (ks : List �
     pub removed_pair : SamePair (pair_of old role) (pair_of new role)
     removed_pair = pair_then role old mid new (put_pair mid others here) gone_pair
 
-    pub removed_formed : IsFormed new role
-    removed_formed = formed_same role mid new (put_formed mid others here) gone_pair
-        (λ j less. ⊎_elim (λ (e : new (slot.Segment role j) ≡ mid (slot.Segment role j)). in_form role (mid (slot.Segment role j)) (new (slot.Segment role j)) e ((put_formed mid others here).segments j less))
+    removed_in_place : 0 < length ks → AreInPlace new role
+    removed_in_place some = (let p = put_in_place mid others here some in record {
+      old = λ q kind own. removes.others q (λ j. not_old q (slot.Segment role j) kind refl) ∙ p.old q kind own;
+      low = λ j over. ⊎_elim (λ (e : new (slot.Segment role j) ≡ mid (slot.Segment role j)). e ∙ p.low j over)
+          (λ (e : Contains ks j × (new (slot.Segment role j) ≡ None)). e.1) (removes.each j);
+      bare = λ nothing j. absurd (some_held role old formed.in_place ks numbers_are some (λ u. sym (removed_pair.committed u) ∙ nothing u));
+    })
+
+    pub removed_formed : 0 < length ks → IsFormed new role
+    removed_formed some = formed_same role mid new (put_formed mid others here some) gone_pair
+        (λ j less. ⊎_elim (λ (e : new (slot.Segment role j) ≡ mid (slot.Segment role j)). in_form role (mid (slot.Segment role j)) (new (slot.Segment role j)) e ((put_formed mid others here some).segments j less))
         (λ (e : new (slot.Segment role j) ≡ None). in_form role None (new (slot.Segment role j)) e tt) (fewer j less))
-        (λ a. in_form role (mid (slot.Pending role a)) (new (slot.Pending role a)) (new_pending a) ((put_formed mid others here).pendings a))
+        (λ a. in_form role (mid (slot.Pending role a)) (new (slot.Pending role a)) (new_pending a) ((put_formed mid others here some).pendings a))
+        (removed_in_place some)
 
     pub removed_others : OnlyOfRole role old new
     removed_others q other tmp = removes.others q (λ j e. other (ap slot_role e)) ∙ segment_others role k old mid others q other tmp
@@ -213,6 +242,7 @@ module _ (role : Role) (old : FileMap) (formed : IsFormed old role) (ks : List �
         one_left : AreNumbers (segments new role) (k ∷ [])
         one_left = record {
           there = λ j less some. ⊎_elim (λ (e : j ≡ k). subst (Contains (k ∷ [])) (sym e) (Contains-push [] k)) (λ (other : j ≢ k). absurd (not_gone j less other some)) (number_cases j k);
+          only = (ap is_some (kept_top ∙ here), tt);
           below = (m.within, tt);
           rises = rises_one k;
         }

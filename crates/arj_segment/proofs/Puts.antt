@@ -1,5 +1,5 @@
 -- What the put of a file leaves: of a Pending file, and of the first segment.
-use Rattle.std.proofs.Common.{◌≡◌, ◌≢◌, ◌⊎◌, ◌∙◌, true, false, true≢false, Bool, cond, ℕ, List, [], ◌∷◌, ◌≤◌, arith, refl, sym, ap, subst}
+use Rattle.std.proofs.Common.{◌≡◌, ◌≢◌, ◌⊎◌, ◌∙◌, true, false, true≢false, Bool, cond, ℕ, List, [], ◌∷◌, ◌<◌, ◌≤◌, arith, refl, sym, ap, subst}
 use Rattle.std.proofs.Common.{inl, ⊎_elim, map, length, Option, Some, None}
 use Rattle.std.specs.Prelude.{IsSome, is_some, Contains, option_map}
 use Rattle.std.specs.List.{AllByRecursion, IsDistinct}
@@ -23,12 +23,13 @@ use Rattle.arj_store.proofs.Prepared.{all_in, among}
 use Rattle.arj_store.proofs.Uids.{uid_cases, uid_same, uid_is}
 use Rattle.arj_store.specs.Pair.{Adds, HasFirst, HasOnly, IsKnown, InDoubt, newer, packed, uid_of}
 use Rattle.arj_store.specs.Shadow.{is_in}
-use Rattle.arj_segment.proofs.Changes.{in_form, number_cases}
+use Rattle.arj_segment.proofs.Changes.{in_form, not_old, number_cases}
 use Rattle.arj_segment.proofs.Held.{SameBut, holds, held_put}
 use Rattle.arj_segment.proofs.Pend.{among_objects}
 use Rattle.arj_segment.specs.Blank.{nothing_held}
-use Rattle.arj_segment.specs.Formed.{IsFormed}
+use Rattle.arj_segment.specs.Formed.{AreInPlace, IsFormed}
 use Rattle.arj_segment.specs.Says.{held, pair_of, pend, segments, state_in}
+use Rattle.arj_segment.specs.declared.limits.TheConstants.{MOST_NUMBER}
 
 -- what changes Tmp alone changes no file of a role
 pub but_tmp : (role : Role) (old new : FileMap) → ((q : Slot) → q ≢ slot.Tmp → new q ≡ old q) → SameOfRole role old new
@@ -74,6 +75,11 @@ module _ (role : Role) (act : Uid) (states : List ObjectState) (old new : FileMa
         (λ (other : a ≢ act). in_form role (old (slot.Pending role a)) (new (slot.Pending role a)) (put_pending a other) (formed.pendings a)) (uid_cases a act);
     once = put_once;
     few = λ us distinct each. few us distinct (λ u among. known_prepared (pair_of old role) (pair_of new role) act states put_adds u (each u among));
+    in_place = (let p = formed.in_place in record {
+      old = λ q kind own. others q (not_old q (slot.Pending role act) kind refl) (not_old q slot.Tmp kind refl) ∙ p.old q kind own;
+      low = λ j above. put_segments j ∙ p.low j above;
+      bare = λ nothing j. put_segments j ∙ p.bare (λ u. sym (put_adds.committed u) ∙ nothing u) j;
+    });
   }
 
 pub put_others : (role : Role) (act : Uid) (old new : FileMap) → ((q : Slot) → q ≢ slot.Pending role act → q ≢ slot.Tmp → new q ≡ old q) →
@@ -150,13 +156,29 @@ module _ (role : Role) (states : List ObjectState) (old new : FileMap) (none : (
   pub first_whole : HasFirst (pair_of new role) states
   first_whole = (length states, subst (HasOnly (pair_of new role)) (sym (take_all (length states) states (omega arith))) first_only)
 
-  pub first_formed : IsFormed new role
-  first_formed = record {
+  first_in_place : 0 < length states → AreInPlace new role
+  first_in_place some = record {
+    old = λ q kind own. others q (not_old q (slot.Segment role 1) kind refl) (not_old q slot.Tmp kind refl) ∙ none q own;
+    low = λ j above. others (slot.Segment role j) (λ e. high j above cc) (λ e. cc) ∙ none (slot.Segment role j) refl;
+    bare = λ nothing j. absurd (full states first_only.each some nothing);
+  }
+    where
+      high : (j : ℕ) → MOST_NUMBER < j → j ≡ 1 → ⊥
+      high j above e = omega (arith, above, e)
+
+      full : (ss : List ObjectState) → AllByRecursion (λ s. held new role s.uid ≡ Some (state_bytes s)) ss → 0 < length ss →
+          ((u : Uid) → held new role u ≡ None) → ⊥
+      full [] all some nothing = omega (arith, some)
+      full (s ∷ ss) all some nothing = let never : None ≡ Some (state_bytes s) = sym (nothing s.uid) ∙ all.0 in absurd cc
+
+  pub first_formed : 0 < length states → IsFormed new role
+  first_formed some = record {
     segments = λ j less. ⊎_elim (λ (e : j ≡ 1). in_form role (Some bytes) (new (slot.Segment role j)) (ap (λ n. new (slot.Segment role n)) e ∙ here) is)
         (λ (other : j ≢ 1). in_form role None (new (slot.Segment role j)) (first_segments j less other ∙ none (slot.Segment role j) refl) tt) (number_cases j 1);
     pendings = λ a. in_form role None (new (slot.Pending role a)) (first_pending a) tt;
     once = λ a b u na nb. absurd (subst (λ o. names o u) (ap (option_map states_in) (first_pending a)) na);
     few = λ us apart each. at_most MOST_KNOWN (map uid_of states) (omega (arith, count, length_map states)) us apart (λ u among. first_known u (each u among));
+    in_place = first_in_place some;
   }
     where
       length_map : (ss : List ObjectState) → length (map uid_of ss) ≡ length ss

@@ -47,6 +47,11 @@ module _ (role : Role) (file : FileMap) (none : (q : Slot) → slot_role q ≡ S
     pendings = λ a. subst (λ o. IfSome o (IsSegment role)) (sym (none (slot.Pending role a) refl)) tt;
     once = λ a b u is is'. absurd (nothing_named a u is);
     few = λ us distinct known. few us known;
+    in_place = record {
+      old = λ q is own. none q own;
+      low = λ k above. none (slot.Segment role k) refl;
+      bare = λ nothing k. none (slot.Segment role k) refl;
+    };
   }
 
   -- they give the empty pair: no committed state, and nothing prepared

@@ -1,5 +1,5 @@
 -- What changes no file of a role leaves its files formed, and its pair; and where they are formed, the pair is sound.
-use Rattle.std.proofs.Common.{◌≡◌, ℕ, List, refl, sym, ap, subst, Option, Some, None}
+use Rattle.std.proofs.Common.{◌≡◌, ◌∙◌, ℕ, List, refl, sym, ap, subst, Option, Some, None}
 use Rattle.std.specs.Prelude.{IfSome, option_map}
 use Rattle.arj_base.specs.declared.uid.Uid.{Uid}
 use Rattle.arj_disk.specs.declared.limits.TheConstants.{MOST_KNOWN}
@@ -35,6 +35,12 @@ module _ (role : Role) (old new : FileMap) (same : SameOfRole role old new) wher
     pendings = λ a. subst (λ o. IfSome o (IsSegment role)) (sym (same (slot.Pending role a) refl)) (formed.pendings a);
     once = subst (λ (p : Pair). (a b u : Uid) → names (p.pend a) u → names (p.pend b) u → a ≡ b) (sym same_pair) formed.once;
     few = subst (λ (p : Pair). AtMost MOST_KNOWN (IsKnown p)) (sym same_pair) formed.few;
+    in_place = (let p = formed.in_place in record {
+      old = λ q is own. same q own ∙ p.old q is own;
+      low = λ k above. same (slot.Segment role k) refl ∙ p.low k above;
+      bare = λ nothing k. same (slot.Segment role k) refl
+          ∙ p.bare (λ u. sym (ap (λ (r : Pair). r.held u) same_pair) ∙ nothing u) k;
+    });
   }
 
 -- the same, as the store's law

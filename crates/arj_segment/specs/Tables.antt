@@ -29,8 +29,13 @@ pub record KeepsPend (pend : Uid → Option (List (Uid × List ℕ))) (actions :
 -- these are the numbers of the segments, increasing
 pub record AreNumbers (segment : ℕ → Option (List ℕ)) (ks : List ℕ) : Type 0 where
   pub there : (k : ℕ) → k < numbers → IsSome (segment k) → Contains ks k
+  pub only : AllByRecursion (λ k. IsSome (segment k)) ks
   pub below : AllByRecursion (λ k. k < numbers) ks
   pub rises : IsStrictlySortedBy nat_cmp ks
+
+-- no object is there, and no segment
+abbrev pub IsBare : List Uid → List ℕ → Type 0
+IsBare us ks = (us ≡ []) × (ks ≡ [])
 
 -- What is committed is kept: the segment that has the state of each object, and the numbers of the segments.
 pub record KeepsPlaces (segment : ℕ → Option (List ℕ)) (places : Uid → Option ℕ) (ks : List ℕ) : Type 0 where

@@ -17,5 +17,5 @@ mod recovery;
 mod refusals;
 mod segment;
 
-pub use limits::MOST_SEGMENTS;
+pub use limits::{MOST_NUMBER, MOST_SEGMENTS};
 pub use segment::SegmentStore;

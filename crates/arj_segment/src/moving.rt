@@ -1,5 +1,5 @@
 // What changes the Pending files of a role: a prepare, and the two ends of an action. A merge stands elsewhere.
-ghost use Rattle.std.specs.Prelude.{◌≡◌, ◌⊎◌, ◌↔◌, ◌≤◌, true, None, Some, [], IsSome, IfOk, OnOk, OnErr, IsErrOf, length, map, Contains};
+ghost use Rattle.std.specs.Prelude.{◌≡◌, ◌⊎◌, ◌↔◌, ◌≤◌, true, None, Some, [], IsSome, IfOk, MatchBool, OnOk, OnErr, IsErrOf, length, map, Contains};
 ghost use Rattle.std.specs.List.{AllByRecursion};
 ghost use Rattle.arj_base.specs.State.{state_bytes};
 ghost use Rattle.arj_base.specs.declared.limits.TheConstants.{MOST_BYTES};
@@ -15,10 +15,11 @@ ghost use Rattle.arj_store.specs.Table.{at};
 ghost use Rattle.arj_segment.specs.Formed.{IsFormed};
 ghost use Rattle.arj_segment.specs.Kept.{Keeps};
 ghost use Rattle.arj_segment.specs.Says.{pair_of, pend};
+ghost use Rattle.arj_segment.specs.Tables.{IsBare};
 
 use crate::kept::{Kept, set_each, take_each};
 use crate::numbering::next_number;
-use arj_base::{ObjectState, Uid};
+use arj_base::{Numbers, ObjectState, Uid, Uids};
 use arj_disk::{Disk, Role, Slot, put};
 use arj_segment_file::file_of;
 use arj_store::{StoreFault, objects_of_states};
@@ -87,7 +88,15 @@ pub fn put_pending<D: Disk>(
     Ok(())
 }
 
-/// Gives the Pending file of an action the next number as a segment; true where there is that file.
+// Whether what is committed of these objects leaves a role that has no segments without any state.
+fn is_bare(objects: &Uids, numbers: &Numbers) -> bool
+    ensures { MatchBool result (IsBare objects.now numbers.now) (IsBare objects.now numbers.now → ⊥) }
+{
+    objects.as_slice().is_empty() && numbers.as_slice().is_empty()
+}
+
+/// Gives the Pending file of an action the next number as a segment; true where there is that file. Where it has no state, and no
+/// segment is there, the file is removed: the first segment of a role has a state.
 pub fn commit_file<D: Disk>(
     disk: &mut D,
     role: Role,
@@ -107,6 +116,10 @@ pub fn commit_file<D: Disk>(
     let Some(objects) = kept.actions.take(act) else {
         return Ok(false);
     };
+    if is_bare(&objects, &kept.numbers) {
+        disk.remove(Slot::Pending(role, act))?;
+        return Ok(true);
+    }
     let number = next_number(kept.numbers.as_slice())?;
     disk.rename(Slot::Pending(role, act), Slot::Segment(role, number))?;
     take_each(&mut kept.holdings, objects.as_slice());

@@ -1,5 +1,5 @@
 // The numbers of segments, and the actions that have a Pending file, as the names of a disk tell them.
-ghost use Rattle.std.specs.Prelude.{◌<◌, ℕ, Contains, IfOk, OnOk};
+ghost use Rattle.std.specs.Prelude.{◌<◌, ◌≤◌, ℕ, Contains, IfOk, OnOk};
 ghost use Rattle.std.specs.List.{AllByRecursion};
 ghost use Rattle.std.specs.List.Sorted.{IsStrictlySortedBy};
 ghost use Rattle.std.specs.Ordering.{nat_cmp};
@@ -8,7 +8,9 @@ ghost use Rattle.arj_disk.specs.Slot.{slot_order, uid_order};
 ghost use Rattle.arj_disk.specs.declared.slot.Slot.{Slot};
 ghost use Rattle.arj_segment.specs.Says.{numbers as all_numbers};
 ghost use Rattle.arj_segment.specs.Tables.{TakesName};
+ghost use Rattle.arj_segment.specs.declared.limits.TheConstants.{MOST_NUMBER};
 
+use crate::MOST_NUMBER;
 use arj_base::{Numbers, Uid, Uids};
 use arj_disk::{Role, Slot};
 use std::alloc::{AllocError, Global};
@@ -17,6 +19,7 @@ use std::alloc::{AllocError, Global};
 pub fn numbers_in(alloc: Global, role: Role, names: &[Slot]) -> Result<Numbers, AllocError>
     requires { IsStrictlySortedBy slot_order names.now }
     ensures there { IfOk result (λ ks. (k : ℕ) → Contains names.now (Slot.Segment role k) → Contains ks k) }
+    ensures only { IfOk result (AllByRecursion (λ k. Contains names.now (Slot.Segment role k))) }
     ensures below { IfOk result (AllByRecursion (λ k. k < all_numbers)) }
     ensures rises { IfOk result (IsStrictlySortedBy nat_cmp) }
 {
@@ -66,13 +69,15 @@ pub fn next_number(numbers: &[u64]) -> Result<u64, AllocError>
     requires { IsStrictlySortedBy nat_cmp numbers.now }
     ensures above { IfOk result (λ k. AllByRecursion (λ j. j < k) numbers.now) }
     ensures below { IfOk result (λ k. k < all_numbers) }
+    ensures low { IfOk result (λ k. k ≤ MOST_NUMBER) }
 {
     let count = numbers.len();
     if count == 0 {
         return Ok(1);
     }
-    match numbers[count - 1].checked_add(1) {
-        Some(next) => Ok(next),
-        None => Err(AllocError),
+    let last = numbers[count - 1];
+    if last >= MOST_NUMBER {
+        return Err(AllocError);
     }
+    Ok(last + 1)
 }

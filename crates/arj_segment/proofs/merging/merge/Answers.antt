@@ -1,4 +1,5 @@
-use Rattle.std.proofs.Common.{ℕ, List, arith, ap, length, sym, subst}
+use Rattle.std.proofs.Common.{ℕ, ◌<◌, List, arith, ap, length, sym, subst}
+use Rattle.std.proofs.lemmas.Bool.Decides.{nat_tests}
 use Rattle.arj_disk.specs.Disk.{Puts, PutsOrNot}
 use Rattle.arj_disk.specs.declared.slot.Slot.TheVariants.{Segment}
 use Rattle.arj_store.specs.Pair.{SamePair}
@@ -30,7 +31,9 @@ returns-in_err-put-clause-pair g c =
     subst (λ ks. IsMerged c.args.role (g.D.Disk.file c.args.disk.now) ks c.in_ok-number.number bytes) c.as_slice-2.ensures (subst (λ b. IsMerged c.args.role (g.D.Disk.file c.args.disk.now) c.as_slice-2.result.now c.in_ok-number.number b) (sym c.as_slice-3.ensures) c.in_ok-number.ensures.merged) in
     let puts : PutsOrNot (g.D.Disk.file c.args.disk.now) (g.D.Disk.file c.put.new.disk) (Segment c.args.role c.in_ok-number.number) bytes =
     subst (λ f. PutsOrNot f (g.D.Disk.file c.put.new.disk) (Segment c.args.role c.in_ok-number.number) bytes) c.merged_file.ensures.files c.put.ensures.files in
-    (put_or_not c.args.role (g.D.Disk.file c.args.disk.now) c.requires.formed c.args.kept.now.numbers c.requires.keeps.committed.numbers_are c.in_ok-number.number bytes m (g.D.Disk.file c.put.new.disk) puts).1
+    let same = ap length c.as_slice.ensures in
+    let some : 0 < length c.args.kept.now.numbers = grind (arith, nat_tests, same) in
+    (put_or_not c.args.role (g.D.Disk.file c.args.disk.now) c.requires.formed c.args.kept.now.numbers c.requires.keeps.committed.numbers_are c.in_ok-number.number bytes m (g.D.Disk.file c.put.new.disk) puts some).1
 
 pub returns-in_err-put-clause-formed : goal.returns-in_err-put-clause-formed
 returns-in_err-put-clause-formed g c =
@@ -39,7 +42,9 @@ returns-in_err-put-clause-formed g c =
     subst (λ ks. IsMerged c.args.role (g.D.Disk.file c.args.disk.now) ks c.in_ok-number.number bytes) c.as_slice-2.ensures (subst (λ b. IsMerged c.args.role (g.D.Disk.file c.args.disk.now) c.as_slice-2.result.now c.in_ok-number.number b) (sym c.as_slice-3.ensures) c.in_ok-number.ensures.merged) in
     let puts : PutsOrNot (g.D.Disk.file c.args.disk.now) (g.D.Disk.file c.put.new.disk) (Segment c.args.role c.in_ok-number.number) bytes =
     subst (λ f. PutsOrNot f (g.D.Disk.file c.put.new.disk) (Segment c.args.role c.in_ok-number.number) bytes) c.merged_file.ensures.files c.put.ensures.files in
-    (put_or_not c.args.role (g.D.Disk.file c.args.disk.now) c.requires.formed c.args.kept.now.numbers c.requires.keeps.committed.numbers_are c.in_ok-number.number bytes m (g.D.Disk.file c.put.new.disk) puts).0
+    let same = ap length c.as_slice.ensures in
+    let some : 0 < length c.args.kept.now.numbers = grind (arith, nat_tests, same) in
+    (put_or_not c.args.role (g.D.Disk.file c.args.disk.now) c.requires.formed c.args.kept.now.numbers c.requires.keeps.committed.numbers_are c.in_ok-number.number bytes m (g.D.Disk.file c.put.new.disk) puts some).0
 
 pub returns-in_err-put-clause-others : goal.returns-in_err-put-clause-others
 returns-in_err-put-clause-others g c =
@@ -66,7 +71,9 @@ returns-in_err-remove_segments-clause-formed g c =
     let puts : Puts (g.D.Disk.file c.args.disk.now) (g.D.Disk.file c.put.new.disk) (Segment c.args.role c.in_ok-number.number) bytes =
     subst (λ f. Puts f (g.D.Disk.file c.put.new.disk) (Segment c.args.role c.in_ok-number.number) bytes) c.merged_file.ensures.files c.in_ok-put.ensures.ok in
     let removes : RemovesSome c.args.role c.args.kept.now.numbers (g.D.Disk.file c.put.new.disk) (g.D.Disk.file c.remove_segments.new.disk) = subst (λ ks. RemovesSome c.args.role ks (g.D.Disk.file c.put.new.disk) (g.D.Disk.file c.remove_segments.new.disk)) c.as_slice-4.ensures c.remove_segments.ensures.files in
-    removed_formed c.args.role (g.D.Disk.file c.args.disk.now) c.requires.formed c.args.kept.now.numbers c.requires.keeps.committed.numbers_are c.in_ok-number.number bytes m (g.D.Disk.file c.put.new.disk) (g.D.Disk.file c.remove_segments.new.disk) puts.others puts.here removes
+    let same = ap length c.as_slice.ensures in
+    let some : 0 < length c.args.kept.now.numbers = grind (arith, nat_tests, same) in
+    removed_formed c.args.role (g.D.Disk.file c.args.disk.now) c.requires.formed c.args.kept.now.numbers c.requires.keeps.committed.numbers_are c.in_ok-number.number bytes m (g.D.Disk.file c.put.new.disk) (g.D.Disk.file c.remove_segments.new.disk) puts.others puts.here removes some
 
 pub returns-in_err-remove_segments-clause-others : goal.returns-in_err-remove_segments-clause-others
 returns-in_err-remove_segments-clause-others g c =
@@ -96,7 +103,9 @@ returns-in_err-all_in_one-clause-formed g c =
     let puts : Puts (g.D.Disk.file c.args.disk.now) (g.D.Disk.file c.put.new.disk) (Segment c.args.role c.in_ok-number.number) bytes =
     subst (λ f. Puts f (g.D.Disk.file c.put.new.disk) (Segment c.args.role c.in_ok-number.number) bytes) c.merged_file.ensures.files c.in_ok-put.ensures.ok in
     let removes : RemovesSome c.args.role c.args.kept.now.numbers (g.D.Disk.file c.put.new.disk) (g.D.Disk.file c.remove_segments.new.disk) = subst (λ ks. RemovesSome c.args.role ks (g.D.Disk.file c.put.new.disk) (g.D.Disk.file c.remove_segments.new.disk)) c.as_slice-4.ensures c.remove_segments.ensures.files in
-    removed_formed c.args.role (g.D.Disk.file c.args.disk.now) c.requires.formed c.args.kept.now.numbers c.requires.keeps.committed.numbers_are c.in_ok-number.number bytes m (g.D.Disk.file c.put.new.disk) (g.D.Disk.file c.remove_segments.new.disk) puts.others puts.here removes
+    let same = ap length c.as_slice.ensures in
+    let some : 0 < length c.args.kept.now.numbers = grind (arith, nat_tests, same) in
+    removed_formed c.args.role (g.D.Disk.file c.args.disk.now) c.requires.formed c.args.kept.now.numbers c.requires.keeps.committed.numbers_are c.in_ok-number.number bytes m (g.D.Disk.file c.put.new.disk) (g.D.Disk.file c.remove_segments.new.disk) puts.others puts.here removes some
 
 pub returns-in_err-all_in_one-clause-others : goal.returns-in_err-all_in_one-clause-others
 returns-in_err-all_in_one-clause-others g c =
@@ -126,7 +135,9 @@ returns-clause-formed g c =
     let puts : Puts (g.D.Disk.file c.args.disk.now) (g.D.Disk.file c.put.new.disk) (Segment c.args.role c.in_ok-number.number) bytes =
     subst (λ f. Puts f (g.D.Disk.file c.put.new.disk) (Segment c.args.role c.in_ok-number.number) bytes) c.merged_file.ensures.files c.in_ok-put.ensures.ok in
     let removes : RemovesSome c.args.role c.args.kept.now.numbers (g.D.Disk.file c.put.new.disk) (g.D.Disk.file c.remove_segments.new.disk) = subst (λ ks. RemovesSome c.args.role ks (g.D.Disk.file c.put.new.disk) (g.D.Disk.file c.remove_segments.new.disk)) c.as_slice-4.ensures c.remove_segments.ensures.files in
-    removed_formed c.args.role (g.D.Disk.file c.args.disk.now) c.requires.formed c.args.kept.now.numbers c.requires.keeps.committed.numbers_are c.in_ok-number.number bytes m (g.D.Disk.file c.put.new.disk) (g.D.Disk.file c.remove_segments.new.disk) puts.others puts.here removes
+    let same = ap length c.as_slice.ensures in
+    let some : 0 < length c.args.kept.now.numbers = grind (arith, nat_tests, same) in
+    removed_formed c.args.role (g.D.Disk.file c.args.disk.now) c.requires.formed c.args.kept.now.numbers c.requires.keeps.committed.numbers_are c.in_ok-number.number bytes m (g.D.Disk.file c.put.new.disk) (g.D.Disk.file c.remove_segments.new.disk) puts.others puts.here removes some
 
 pub returns-clause-others : goal.returns-clause-others
 returns-clause-others g c =

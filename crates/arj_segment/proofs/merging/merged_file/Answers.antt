@@ -19,4 +19,4 @@ file_of-requires-clause-sizes g c = subst (AllByRecursion (λ s. length (state_b
 pub returns-clause-merged : goal.returns-clause-merged
 returns-clause-merged g c =
     is_merged c.args.role (g.D.Disk.file c.args.disk.now) c.requires.formed (at c.in_ok-gathered.gathered.states) c.in_ok-gathered.ensures.states c.in_ok-states.states c.in_ok-states.ensures
-    c.args.numbers.now c.in_ok-number.number c.in_ok-number.ensures.below c.in_ok-number.ensures.above (subst (AllByRecursion FitsRow) c.as_slice.ensures c.in_ok-file.ensures.fit) c.in_ok-file.file (c.in_ok-file.ensures.bytes ∙ ap segment_bytes c.as_slice.ensures)
+    c.args.numbers.now c.in_ok-number.number c.in_ok-number.ensures.below c.in_ok-number.ensures.low c.in_ok-number.ensures.above (subst (AllByRecursion FitsRow) c.as_slice.ensures c.in_ok-file.ensures.fit) c.in_ok-file.file (c.in_ok-file.ensures.bytes ∙ ap segment_bytes c.as_slice.ensures)

@@ -1,4 +1,4 @@
-use Rattle.std.proofs.Common.{◌≡◌, ◌∙◌, ◌++◌, ◌∷◌, [], arith, length, refl, sym, ap, subst, Some}
+use Rattle.std.proofs.Common.{◌≡◌, ◌∙◌, ◌++◌, ◌∷◌, [], ◌<◌, arith, length, refl, sym, ap, subst, Some}
 use Rattle.arj_segment_file.specs.Format.{IsSegment}
 use Rattle.arj_store.proofs.Ends.{on_err}
 use Rattle.std.proofs.lemmas.Bool.Decides.{nat_tests}
@@ -36,9 +36,10 @@ returns-in_err-put-clause-fault g c =
 
 pub returns-in_err-put-clause-formed : goal.returns-in_err-put-clause-formed
 returns-in_err-put-clause-formed g c =
+    let some : 0 < length c.args.states.now = grind (arith, nat_tests) in
     let is : IsSegment c.args.role c.as_slice.result.now =
     segment_is c.args.role c.args.states.now c.in_ok-file.ensures.fit c.requires.count c.requires.states c.as_slice.result.now (c.as_slice.ensures ∙ c.in_ok-file.ensures.bytes) in
-    first_end c.args.role c.args.states.now (g.D.Disk.file c.args.disk.now) c.requires.empty c.requires.states.distinct c.requires.count c.as_slice.result.now is refl (g.D.Disk.file c.put.new.disk) c.put.ensures.files
+    first_end c.args.role c.args.states.now (g.D.Disk.file c.args.disk.now) c.requires.empty c.requires.states.distinct c.requires.count c.as_slice.result.now is refl (g.D.Disk.file c.put.new.disk) some c.put.ensures.files
 
 pub returns-in_err-put-clause-others : goal.returns-in_err-put-clause-others
 returns-in_err-put-clause-others g c =
@@ -52,9 +53,10 @@ returns-in_err-set_each-clause-fault g c =
 
 pub returns-in_err-set_each-clause-formed : goal.returns-in_err-set_each-clause-formed
 returns-in_err-set_each-clause-formed g c =
+    let some : 0 < length c.args.states.now = grind (arith, nat_tests) in
     let is : IsSegment c.args.role c.as_slice.result.now =
     segment_is c.args.role c.args.states.now c.in_ok-file.ensures.fit c.requires.count c.requires.states c.as_slice.result.now (c.as_slice.ensures ∙ c.in_ok-file.ensures.bytes) in
-    first_end c.args.role c.args.states.now (g.D.Disk.file c.args.disk.now) c.requires.empty c.requires.states.distinct c.requires.count c.as_slice.result.now is refl (g.D.Disk.file c.put.new.disk) c.put.ensures.files
+    first_end c.args.role c.args.states.now (g.D.Disk.file c.args.disk.now) c.requires.empty c.requires.states.distinct c.requires.count c.as_slice.result.now is refl (g.D.Disk.file c.put.new.disk) some c.put.ensures.files
 
 pub returns-in_err-set_each-clause-others : goal.returns-in_err-set_each-clause-others
 returns-in_err-set_each-clause-others g c =
@@ -68,9 +70,10 @@ returns-in_err-push-clause-fault g c =
 
 pub returns-in_err-push-clause-formed : goal.returns-in_err-push-clause-formed
 returns-in_err-push-clause-formed g c =
+    let some : 0 < length c.args.states.now = grind (arith, nat_tests) in
     let is : IsSegment c.args.role c.as_slice.result.now =
     segment_is c.args.role c.args.states.now c.in_ok-file.ensures.fit c.requires.count c.requires.states c.as_slice.result.now (c.as_slice.ensures ∙ c.in_ok-file.ensures.bytes) in
-    first_end c.args.role c.args.states.now (g.D.Disk.file c.args.disk.now) c.requires.empty c.requires.states.distinct c.requires.count c.as_slice.result.now is refl (g.D.Disk.file c.put.new.disk) c.put.ensures.files
+    first_end c.args.role c.args.states.now (g.D.Disk.file c.args.disk.now) c.requires.empty c.requires.states.distinct c.requires.count c.as_slice.result.now is refl (g.D.Disk.file c.put.new.disk) some c.put.ensures.files
 
 pub returns-in_err-push-clause-others : goal.returns-in_err-push-clause-others
 returns-in_err-push-clause-others g c =
@@ -104,9 +107,10 @@ returns-clause-pair g c =
 
 pub returns-clause-formed : goal.returns-clause-formed
 returns-clause-formed g c =
+    let some : 0 < length c.args.states.now = grind (arith, nat_tests) in
     let is : IsSegment c.args.role c.as_slice.result.now =
     segment_is c.args.role c.args.states.now c.in_ok-file.ensures.fit c.requires.count c.requires.states c.as_slice.result.now (c.as_slice.ensures ∙ c.in_ok-file.ensures.bytes) in
-    first_end c.args.role c.args.states.now (g.D.Disk.file c.args.disk.now) c.requires.empty c.requires.states.distinct c.requires.count c.as_slice.result.now is refl (g.D.Disk.file c.put.new.disk) c.put.ensures.files
+    first_end c.args.role c.args.states.now (g.D.Disk.file c.args.disk.now) c.requires.empty c.requires.states.distinct c.requires.count c.as_slice.result.now is refl (g.D.Disk.file c.put.new.disk) some c.put.ensures.files
 
 pub returns-clause-others : goal.returns-clause-others
 returns-clause-others g c = first_rest c.args.role (g.D.Disk.file c.args.disk.now) (g.D.Disk.file c.put.new.disk) c.put.ensures.files.others

@@ -23,3 +23,7 @@ loop-slot-preserved c =
 pub returns-clause-there : goal.returns-clause-there
 returns-clause-there c =
     (picked_all (Segment c.args.role) nat_cmp c.args.names.now c.loop-slot.slot-index c.loop-slot.numbers (omega arith) c.loop-slot.invariant.picks).there
+
+pub returns-clause-only : goal.returns-clause-only
+returns-clause-only c =
+    (picked_all (Segment c.args.role) nat_cmp c.args.names.now c.loop-slot.slot-index c.loop-slot.numbers (omega arith) c.loop-slot.invariant.picks).from

@@ -14,7 +14,7 @@ pub gather-requires-clause-numbers : goal.gather-requires-clause-numbers
 gather-requires-clause-numbers g c =
     subst (λ file. AreNumbers (segments file c.args.role) c.as_slice.result.now) (sym c.read_pendings.ensures.files)
     (subst (AreNumbers (segments (g.D.Disk.file c.args.disk.now) c.args.role)) (sym c.as_slice.ensures)
-    (are_numbers (g.D.Disk.file c.args.disk.now) c.args.role c.args.names.now c.in_ok-numbers.numbers c.requires.lists c.in_ok-numbers.ensures.there c.in_ok-numbers.ensures.below c.in_ok-numbers.ensures.rises))
+    (are_numbers (g.D.Disk.file c.args.disk.now) c.args.role c.args.names.now c.in_ok-numbers.numbers c.requires.lists c.in_ok-numbers.ensures.there c.in_ok-numbers.ensures.only c.in_ok-numbers.ensures.below c.in_ok-numbers.ensures.rises))
 
 pub returns-clause-keeps : goal.returns-clause-keeps
 returns-clause-keeps g c = record {
@@ -23,7 +23,7 @@ returns-clause-keeps g c = record {
     places_are = subst (λ file. (u : Uid) →
         at c.in_ok-gathered.gathered.places u ≡ place (segments file c.args.role) u) c.read_pendings.ensures.files c.in_ok-gathered.ensures.places;
     numbers_are =
-        are_numbers (g.D.Disk.file c.args.disk.now) c.args.role c.args.names.now c.in_ok-numbers.numbers c.requires.lists c.in_ok-numbers.ensures.there c.in_ok-numbers.ensures.below c.in_ok-numbers.ensures.rises;
+        are_numbers (g.D.Disk.file c.args.disk.now) c.args.role c.args.names.now c.in_ok-numbers.numbers c.requires.lists c.in_ok-numbers.ensures.there c.in_ok-numbers.ensures.only c.in_ok-numbers.ensures.below c.in_ok-numbers.ensures.rises;
   };
 }
 
