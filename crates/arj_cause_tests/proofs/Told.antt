@@ -17,21 +17,22 @@ use Rattle.arj_journal.specs.declared.event.Event.TheVariants as event
 use Rattle.arj_model.specs.CauseSpans.{Here}
 use Rattle.arj_model.specs.Past.{Past, nothing_yet}
 use Rattle.arj_law_cause.specs.form.Form.{AreInForm}
-use Rattle.arj_law_cause.specs.kinds.Kinds.{is_active, is_armed, is_bare_abort, is_bound, is_commit_done, is_committed, is_dropped}
-use Rattle.arj_law_cause.specs.kinds.Kinds.{is_excluded}
+use Rattle.arj_law_cause.specs.kinds.Kinds.{is_active, is_armed, is_bare_abort, is_bound, is_changed_abort, is_commit_done}
+use Rattle.arj_law_cause.specs.kinds.Kinds.{is_committed, is_dropped, is_excluded}
 use Rattle.arj_law_cause.specs.kinds.Kinds.{is_found, is_got, is_granted_entry, is_granted_object, is_halted, is_limit, is_listed_abort}
 use Rattle.arj_law_cause.specs.kinds.Kinds.{is_lock_lowered, is_lost_commit, is_met_abort, is_old_abort, is_opening, is_prepared}
 use Rattle.arj_law_cause.specs.kinds.Kinds.{is_quiet, is_sent}
 use Rattle.arj_law_cause.specs.kinds.Kinds.{is_up, is_void}
 use Rattle.arj_law_cause.specs.kinds.Rows.{row, tested}
-use Rattle.arj_law_cause.specs.kinds.Tests.{is_committed_so, is_old_so}
+use Rattle.arj_law_cause.specs.kinds.Tests.{is_changed_so, is_committed_so, is_old_so}
 use Rattle.arj_law_cause.specs.rows.Lines.{answer_fits}
 use Rattle.arj_law_cause.specs.waits.replies.Ends.{RepliesStep}
 use Rattle.arj_cause_tests.proofs.Words.{Run, after, b, end_from, instead, l, nodes, object_line, of_other_event, run, u, without}
 use Rattle.arj_cause_tests.proofs.Worked.{conflict, exclusion, inclusion, lost_lock, naming_stopped, nested_abort, no_store_left}
 use Rattle.arj_cause_tests.proofs.Worked.{rebinding}
 use Rattle.arj_cause_tests.proofs.Worked.{stop_at_decision_done}
-use Rattle.arj_cause_tests.proofs.Rare.{aborted_conflict, aborted_lost, aborted_old, changed_bind_naming}
+use Rattle.arj_cause_tests.proofs.Rare.{aborted_changed_bind, aborted_conflict, aborted_lost, aborted_old, changed_bind_naming}
+use Rattle.arj_cause_tests.proofs.Rare.{restarted_naming}
 use Rattle.arj_cause_tests.proofs.Rarer.{changed_bind_server, changed_inc_naming, changed_inc_server, conflict_pending, conflict_unsaid}
 use Rattle.arj_cause_tests.proofs.Rarer.{excluded_pending}
 use Rattle.arj_cause_tests.proofs.WrongEvents.{begins, two_nodes}
@@ -58,6 +59,9 @@ failing test r = failing_from test r.header nothing_yet r.wrote
 -- those of one kind that lack their cause
 abbrev old_fits : Here → Body → Bool
 old_fits = tested is_old_so (λ h. is_old_abort)
+
+abbrev changed_fits : Here → Body → Bool
+changed_fits = tested is_changed_so (λ h. is_changed_abort)
 
 abbrev failing_of : (Body → Bool) → Run → List ℕ
 failing_of of r = failing (row (λ h. of)) r
@@ -320,6 +324,37 @@ old_silent = refl
 -- by its own run it is so
 old_so : failing old_fits aborted_old ≡ []
 old_so = refl
+
+-- `aborted` with `changed`, of a server: another incarnation than it has, its own twice, no answer, and one of a later life
+voted_later : failing changed_fits (instead 25 (body.Aborted (l 65) (cause.Changed 2 (difference.Inc 1 3))) lost_lock) ≡ 25 ∷ []
+voted_later = refl
+
+voted_same : failing changed_fits (instead 25 (body.Aborted (l 65) (cause.Changed 2 (difference.Inc 2 2))) lost_lock) ≡ 25 ∷ []
+voted_same = refl
+
+voted_silent : failing changed_fits (instead 23 (body.Sent 7 2 1 frame.Invoked) lost_lock) ≡ 25 ∷ []
+voted_silent = refl
+
+voted_after : failing changed_fits (instead 17 (body.Up 2 3) lost_lock) ≡ 25 ∷ []
+voted_after = refl
+
+-- of naming: another node, and bindings, of which its answer to a Confirm says nothing
+confirmed_other : failing changed_fits (instead 50 (body.Aborted (l 84) (cause.Changed 3 (difference.Inc 1 2))) restarted_naming) ≡ 50 ∷ []
+confirmed_other = refl
+
+confirmed_binding :
+    failing changed_fits (instead 50 (body.Aborted (l 84) (cause.Changed 1 (difference.Bind (b 1 1) (b 2 1)))) restarted_naming) ≡ 50 ∷ []
+confirmed_binding = refl
+
+-- by their own runs they are so
+voted_so : failing changed_fits lost_lock ≡ []
+voted_so = refl
+
+bound_so : failing changed_fits aborted_changed_bind ≡ []
+bound_so = refl
+
+confirmed_so : failing changed_fits restarted_naming ≡ []
+confirmed_so = refl
 
 -- `found`: in no restart
 found : failing_of is_found (after 24 (body.Recovered 1 (u 1 1 1) ∷ []) stop_at_decision_done) ≡ 25 ∷ []

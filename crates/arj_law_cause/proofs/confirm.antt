@@ -1,5 +1,7 @@
 pub mod Began
 pub mod Called
+pub mod Changed
+pub mod Changes
 pub mod Conflicts
 pub mod Entries
 pub mod Free

@@ -1,4 +1,4 @@
--- Naming is asked to confirm, and stores to prepare, only commits that the journal says were called.
+-- Servers are asked to vote, naming to confirm, and stores to prepare, only for commits that the journal says were called.
 use Rattle.arj_law_parts.proofs.Words
 use Words.{◌≡◌, ◌⊎◌, ◌||◌, ◌∙◌, ◌+◌, ◌++◌, cons_option, ⊤, ℕ, Bool, true, false, cond, List, [], ◌∷◌, Option, Some, None, refl, sym, ap}
 use Words.{subst, inl, inr, ⊎_elim}
@@ -82,10 +82,11 @@ called_back ls e b u off on = ap (λ us. is_on us u) (sym (ap (λ (B : Book). B.
 
 -- ---- requests
 
--- the request asks to prepare or to confirm no commit, or one that was called
+-- the request asks to vote for, to prepare or to confirm no commit, or one that was called
 abbrev pub AsksCalled : Ask → Uid → List Line → Type 0
 AsksCalled (ask.Confirm grants excluded included) u lines = is_called lines u
 AsksCalled (ask.Prepare states) u lines = is_called lines u
+AsksCalled (ask.Vote i ties ends) u lines = is_called lines u
 AsksCalled _ u lines = ⊤
 
 -- so it is of each request that was sent
@@ -99,7 +100,7 @@ asks_more (ask.Load x) u ls ks on = tt
 asks_more (ask.Activate b st) u ls ks on = tt
 asks_more (ask.Record x b i g) u ls ks on = tt
 asks_more (ask.Invoke x b i ends op) u ls ks on = tt
-asks_more (ask.Vote i ties ends) u ls ks on = tt
+asks_more (ask.Vote i ties ends) u ls ks on = called_more ls ks u on
 asks_more (ask.Prepare states) u ls ks on = called_more ls ks u on
 
 called_bare : (a : Ask) (u : Uid) (ls : List Line) → AsksCalled (bare a) u ls → AsksCalled a u ls
@@ -109,7 +110,7 @@ called_bare (ask.Load x) u ls on = tt
 called_bare (ask.Activate b st) u ls on = tt
 called_bare (ask.Record x b i g) u ls on = tt
 called_bare (ask.Invoke x b i ends op) u ls on = tt
-called_bare (ask.Vote i ties ends) u ls on = tt
+called_bare (ask.Vote i ties ends) u ls on = on
 called_bare (ask.Prepare states) u ls on = on
 
 step_called : (x : ℕ) (g : Goal) (at : At) (u : Uid) (ls : List Line) → AsksCalled (ask_at x g [] at) u ls
@@ -120,7 +121,7 @@ step_called x g (AtNote k i) u ls = tt
 step_called x g (AtInvoke k i) u ls = tt
 
 machine_called : (m : Machine) (to : ℕ) (u : Uid) (ls : List Line) → is_called ls u → AsksCalled (ask_of m to) u ls
-machine_called (Voting p left) to u ls on = tt
+machine_called (Voting p left) to u ls on = on
 machine_called (Preparing p left) to u ls on = on
 machine_called (Confirming p) to u ls on = on
 
@@ -210,7 +211,7 @@ walked_quiet e k outs v d M sends quiet w all =
     back (ask.Activate b st) u ls to on = tt
     back (ask.Record x b i g) u ls to on = tt
     back (ask.Invoke x b i ends op) u ls to on = tt
-    back (ask.Vote i ties ends) u ls to on = tt
+    back (ask.Vote i ties ends) u ls to on = to u on
     back (ask.Prepare states) u ls to on = to u on
 
 walked : (e k : ℕ) (outs : List Effect) (v : Parts) (d : Disk) (M : Seen) → AllSo v.coord outs → Calls outs →

@@ -122,7 +122,7 @@ module _ (hd : Header) (st : Start) (form : HeaderInForm hd) (before : List Line
 
   so : is_called (let z = ans.3 in z.made.before) (actor (let h = ans.0 in h.path))
       × says_late st ans.0 (states_for from p) y v (let z = ans.3 in z.made.before)
-  so = let z = ans.3 in subst (λ b. says_of hd st ans.0 b (Reply.Prepared (prepared.Old y v)) z.made.before) its_ask z.made.so
+  so = let z = ans.3 in subst (λ b. says_of hd st ans.0 b (Reply.Prepared (prepared.Old y v)) z.made.before) its_ask z.made.so.0
 
   -- ---- the action
 

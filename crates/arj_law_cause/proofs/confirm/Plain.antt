@@ -1,4 +1,4 @@
--- Which lines a coordinator says that naming or a store has refused a commit: one, first of all, as it takes the answer.
+-- Which lines a coordinator says that naming, a server or a store has refused a commit: one, first of all, as it takes the answer.
 use Rattle.arj_law_parts.proofs.Words
 use Words.{⊤, ◌≡◌, ◌∙◌, ◌++◌, not, ℕ, Bool, true, false, cond, List, [], ◌∷◌, map, Option, Some, None, refl, sym, ap}
 use Words.{flat_map, Asked, Body, End, Kind, Label, Path, Uid, ConfirmedReply, Reply, actor, Intent, Used}
@@ -10,7 +10,7 @@ use Words.{mark_lines, moved_commit, next_node, nodes_given_up, open_below, part
 use Words.{root_of, say_for, says}
 use Words.{servers_of, step_call, step_commit, targets_of, tell, tolds_of, tolds_by, tolds_of_branch, branch_of, branch_named, on_branch}
 use Words.{waits_for_call, waits_for_commit, CallEnd, CallStep, Answered, Included, Conflict, Changed, Lost, Ended, Goal, On, Run, Steps}
-use Words.{Aborts, Asks}
+use Words.{Aborts, Asks, What, differs}
 use Words.{CommitStep, Decides, Machine, Marked, Plan, Stays, Voting, Preparing, Confirming, Calling, Committing, Idle, Now, Coord, Doing}
 use Words.{doing_of, Branch}
 use Words.{without_number, with_number, with_states, Did, Do, Effect, PutIntent, Say, Served, Input, acts, give_up_call, call, include}
@@ -29,12 +29,13 @@ use Rattle.arj_law_parts.specs.moves.Keeps.{is_act}
 use Rattle.arj_law_runs.proofs.Terms.{all_flat, all_map}
 use Rattle.arj_law_cause.proofs.waits.commits.Serving.{AreStill, IsQuiet, asks_still, is_of_part, quiet_plain, still_both, tells_still}
 
--- naming has refused a commit, or a store has since the state is too late
+-- naming has refused a commit, or a server or a store has, since something changed or the state is too late
 abbrev pub is_refusal : Body → Bool
 is_refusal (body.Aborted l (cause.Old n x v)) = true
 is_refusal (body.Aborted l (cause.Conflict u m n)) = true
 is_refusal (body.Aborted l (cause.NoStores x)) = true
 is_refusal (body.Aborted l (cause.Listed x s)) = true
+is_refusal (body.Aborted l (cause.Changed n d)) = true
 is_refusal b = false
 
 -- the line says no such thing
@@ -175,6 +176,11 @@ why_of (confirmed.NoStores x) = Some (λ l. body.Aborted l (cause.NoStores x))
 why_of (confirmed.Listed x s) = Some (λ l. body.Aborted l (cause.Listed x s))
 why_of q = None
 
+-- The answer says that something changed, where the commit waits for votes, or for naming; so much the line of the refusal names.
+pub data IsChange (from : ℕ) (m : Machine) (r : Reply) (w : What) (n : ℕ) : Type 0 where
+  Votes : (p : Plan) (left : List ℕ) → m ≡ Voting p left → r ≡ Reply.Voted (voted.Changed w) → n ≡ from → IsChange from m r w n
+  Confirms : (p : Plan) → m ≡ Confirming p → r ≡ Reply.Confirmed (confirmed.Changed w) → n ≡ 1 → IsChange from m r w n
+
 -- Of an answer that a commit waits for the step is plain, or it is a refusal, with this line.
 pub data Hears (from : ℕ) (u : Uid) (m : Machine) (r : Reply) (intents : List (Uid × Intent)) (c : Coord) (outs : List Effect) :
     Type 0 where
@@ -183,6 +189,8 @@ pub data Hears (from : ℕ) (u : Uid) (m : Machine) (r : Reply) (intents : List 
       why_of q ≡ Some f → outs ≡ says u f c ++ rest → Plain rest → Hears from u m r intents c outs
   Late : (p : Plan) (left : List ℕ) (x v : ℕ) (rest : List Effect) → m ≡ Preparing p left → r ≡ Reply.Prepared (prepared.Old x v) →
       outs ≡ says u (λ l. body.Aborted l (cause.Old from x v)) c ++ rest → Plain rest → Hears from u m r intents c outs
+  Changes : (w : What) (n : ℕ) (rest : List Effect) → IsChange from m r w n →
+      outs ≡ says u (λ l. body.Aborted l (cause.Changed n (differs w))) c ++ rest → Plain rest → Hears from u m r intents c outs
 
 hears : (u : Uid) (m : Machine) (from : ℕ) (r : Reply) (intents : List (Uid × Intent)) (c : Coord) →
     Hears from u m r intents c (moved_commit u (commit.answered from m r) intents c).outs
@@ -191,7 +199,8 @@ hears u (Voting p left) from (Reply.Voted (voted.Yes states)) intents c =
     (without_number from left)
     (record p { changed = with_states states p.changed })))
 hears u (Voting p left) from (Reply.Voted (voted.Changed w)) intents c =
-    Goes (moved_plain u (commit.answered from (Voting p left) (Reply.Voted (voted.Changed w))) intents c (λ l. refl))
+    Changes w from (tolds_of intents (ended u ending.Abort c) u) (Votes p left refl refl refl) refl
+    (tolds_plain intents (ended u ending.Abort c) u)
 hears u (Preparing p left) from (Reply.Prepared prepared.Yes) intents c =
     Goes (moved_plain u (commit.answered from (Preparing p left) (Reply.Prepared prepared.Yes)) intents c (stores_step
     (without_number from left)
@@ -204,7 +213,8 @@ hears u (Preparing p left) from (Reply.Prepared (prepared.Old x v)) intents c =
 hears u (Confirming p) from (Reply.Confirmed confirmed.Yes) intents c =
     Goes (moved_plain u (commit.answered from (Confirming p) (Reply.Confirmed confirmed.Yes)) intents c tt)
 hears u (Confirming p) from (Reply.Confirmed (confirmed.Changed w)) intents c =
-    Goes (moved_plain u (commit.answered from (Confirming p) (Reply.Confirmed (confirmed.Changed w))) intents c (λ l. refl))
+    Changes w 1 (tolds_of intents (ended u ending.Abort c) u) (Confirms p refl refl refl) refl
+    (tolds_plain intents (ended u ending.Abort c) u)
 hears u (Confirming p) from (Reply.Confirmed (confirmed.Conflict holder k)) intents c =
     Refused p (confirmed.Conflict holder k) (λ l. body.Aborted l (cause.Conflict holder k 1)) (tolds_of intents
     (ended u ending.Abort c) u) refl
@@ -230,6 +240,9 @@ pub data Heard (from : ℕ) (a : Asked) (r : Reply) (c : Coord) (outs : List Eff
   EndsLate : (d : Doing) (p : Plan) (left : List ℕ) (x v : ℕ) (rest : List Effect) → doing_of a.act c ≡ Some d →
       d.now ≡ Committing (Preparing p left) → waits_for_commit from a r (Preparing p left) ≡ true → r ≡ Reply.Prepared (prepared.Old x v) →
       outs ≡ Say (body.Aborted d.label (cause.Old from x v)) ∷ rest → Plain rest → Heard from a r c outs
+  EndsChanged : (d : Doing) (m : Machine) (w : What) (n : ℕ) (rest : List Effect) → doing_of a.act c ≡ Some d → d.now ≡ Committing m →
+      waits_for_commit from a r m ≡ true → IsChange from m r w n →
+      outs ≡ Say (body.Aborted d.label (cause.Changed n (differs w))) ∷ rest → Plain rest → Heard from a r c outs
 
 pub heard_is : (from : ℕ) (a : Asked) (r : Reply) (intents : List (Uid × Intent)) (c : Coord) →
     Heard from a r c (heard from a r intents c).outs
@@ -252,6 +265,8 @@ heard_is from a r intents c = by (doing_of a.act c) refl
         ends waits outs (Late p left x v rest machine reply are ok) = EndsLate d p left x v rest found (is ∙ ap Committing machine)
             (ap (waits_for_commit from a r) (sym machine) ∙ waits) reply
             (are ∙ ap (λ es. es ++ rest) (ap (say_for (λ l. body.Aborted l (cause.Old from x v))) found)) ok
+        ends waits outs (Changes v n rest change are ok) = EndsChanged d m v n rest found is waits change
+            (are ∙ ap (λ es. es ++ rest) (ap (say_for (λ l. body.Aborted l (cause.Changed n (differs v)))) found)) ok
 
         one : (w : Bool) → waits_for_commit from a r m ≡ w → Heard from a r c (cond {A = Served Coord (Unit {0})} w
             (heard_by (moved_commit a.act (commit.answered from m r) intents c)) (heard_none c)).outs

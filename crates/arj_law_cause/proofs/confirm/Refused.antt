@@ -57,7 +57,7 @@ use Rattle.arj_law_serial.proofs.Terms.{AreAlike, AreDistinct, act_of, path, pat
 use Rattle.arj_law_serial.proofs.holding.{Running.Showing, Running.alike_of}
 use Rattle.arj_law_serial.proofs.tables.Holders.{path_fits}
 use Rattle.arj_model.specs.Actions.{tops_in}
-use Rattle.arj_law_cause.specs.kinds.Tests.{is_old_so}
+use Rattle.arj_law_cause.specs.kinds.Tests.{is_changed_so, is_old_so}
 use Rattle.arj_model.specs.CauseAnswers.{meets}
 use Rattle.arj_model.specs.CauseCommits.{confirm_meets}
 use Rattle.arj_model.specs.CauseSpans.{top_uids}
@@ -128,6 +128,8 @@ Fits hd st lines (body.Aborted l (cause.Conflict u m n)) =
     IsEarly lines → (h : Here) → h.header ≡ hd → h.lines ≡ lines → confirm_meets h (name l) u m n ≡ true
 Fits hd st lines (body.Aborted l (cause.Old n y v)) = IsEarly lines → (h : Here) → h.header ≡ hd → h.start ≡ st → h.lines ≡ lines →
     is_old_so h (body.Aborted l (cause.Old n y v)) ≡ true
+Fits hd st lines (body.Aborted l (cause.Changed n d)) = (h : Here) → h.header ≡ hd → h.start ≡ st → h.lines ≡ lines →
+    is_changed_so h (body.Aborted l (cause.Changed n d)) ≡ true
 Fits hd st lines b = ⊤
 
 -- ---- at the coordinator
@@ -202,7 +204,7 @@ module _ (hd : Header) (st : Start) (form : HeaderInForm hd) (before : List Line
       (ap (λ (b : Asked). b.req) ans.2 ∙ sym (eqb-true p.req a.req its_parts.0) ∙ numbered ∙ ap (λ (x : Doing). x.req) (sym doing_is))).1
 
   so : says_of hd st ans.0 (confirm_ask p) (Reply.Confirmed q) (let z = ans.3 in z.made.before)
-  so = let z = ans.3 in subst (λ b. says_of hd st ans.0 b (Reply.Confirmed q) z.made.before) its_ask z.made.so
+  so = let z = ans.3 in subst (λ b. says_of hd st ans.0 b (Reply.Confirmed q) z.made.before) its_ask z.made.so.0
 
   fits : AskFits hd (confirm_ask p)
   fits = let z = ans.3 in

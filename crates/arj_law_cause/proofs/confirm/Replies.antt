@@ -23,11 +23,11 @@ use Rattle.arj_protocol.specs.Confirm.{is_prepared_with}
 
 -- ---- the first that a test refuses
 
-either_cases : (a b : Option ConfirmedReply) (r : ConfirmedReply) → either a b ≡ Some r → (a ≡ Some r) ⊎ ((a ≡ None) × (b ≡ Some r))
+pub either_cases : (a b : Option ConfirmedReply) (r : ConfirmedReply) → either a b ≡ Some r → (a ≡ Some r) ⊎ ((a ≡ None) × (b ≡ Some r))
 either_cases None b r h = inr (refl, h)
 either_cases (Some a) b r h = inl h
 
-first_some : {A : Type 0} (f : A → Option ConfirmedReply) (xs : List A) (r : ConfirmedReply) → first_of_each f xs ≡ Some r →
+pub first_some : {A : Type 0} (f : A → Option ConfirmedReply) (xs : List A) (r : ConfirmedReply) → first_of_each f xs ≡ Some r →
     (a : A) × In a xs × (f a ≡ Some r)
 first_some f [] r h = absurd (cc h)
 first_some f (x ∷ xs) r h = ⊎_elim (λ here. (x, inl refl, here)) (λ more. let z = first_some f xs r more.1 in (z.0, inr z.1, z.2))

@@ -1,5 +1,5 @@
 -- Whole runs: each line that says that naming refused a commit, for a listed store, since no store would be left, or for a row that the
--- top met, has its cause.
+-- top met, has its cause, and so much of it where a store, a server or naming refused one since something is newer.
 use Rattle.arj_law_parts.proofs.Words
 use Words.{⊤, ◌≡◌, ◌⊎◌, ◌∙◌, ◌+◌, ◌==◌, ◌++◌, ◌&&◌, ◌||◌, not, ℕ, Bool, true, false, cond, if◌then◌else◌, List, [], ◌∷◌, Option, Some}
 use Words.{None, refl, sym}
@@ -34,7 +34,8 @@ use Rattle.arj_promise.specs.Runs.{IsInForm, Run, journal_by}
 use Rattle.arj_law_cause.proofs.votes.Lines as lines
 use Rattle.arj_law_cause.specs.rows.Early.{IsEarly}
 use Rattle.arj_law_cause.proofs.confirm.{Joined.early_before, Labels.runs_have_few, Plain.Ends, Plain.Heard, Plain.Plain}
-use Rattle.arj_law_cause.proofs.confirm.{Entries.BeganSo, Entries.began_so, Outdated.old_row, Plain.EndsLate, Plain.Rests}
+use Rattle.arj_law_cause.proofs.confirm.{Changed.changed_row, Entries.BeganSo, Entries.began_so, Outdated.old_row, Plain.EndsChanged}
+use Rattle.arj_law_cause.proofs.confirm.{Plain.EndsLate, Plain.Rests}
 use Rattle.arj_law_cause.proofs.confirm.{Plain.acts_plain}
 use Rattle.arj_law_cause.proofs.confirm.{Plain.heard_is, Plain.parts_plain, Plain.plain, Reached.Reached}
 use Rattle.arj_law_cause.proofs.confirm.{Reached.reached_kept}
@@ -42,8 +43,8 @@ use Rattle.arj_law_cause.proofs.confirm.{Refused.Fits, Refused.fits_line, Says.c
 use Rattle.arj_law_cause.proofs.kinds.Lines.{more_lines}
 use Rattle.arj_law_cause.proofs.waits.commits.Serving as Serving
 use Rattle.arj_law_cause.proofs.waits.commits.Serving.{AreStill, IsQuiet, goes_so, naming_quiet, quiet_plain, restart_still, tick_still}
-use Rattle.arj_law_cause.specs.kinds.Kinds.{is_bare_abort, is_listed_abort, is_met_abort, is_old_abort}
-use Rattle.arj_law_cause.specs.kinds.Tests.{is_old_so}
+use Rattle.arj_law_cause.specs.kinds.Kinds.{is_bare_abort, is_changed_abort, is_listed_abort, is_met_abort, is_old_abort}
+use Rattle.arj_law_cause.specs.kinds.Tests.{is_changed_so, is_old_so}
 use Rattle.arj_law_cause.specs.kinds.Rows.{RowHolds, TestHolds, TestedStep, tested}
 use Rattle.arj_law_parts.proofs.Terms.which
 use Rattle.arj_law_parts.specs.moves.Moments.{no_history}
@@ -66,7 +67,7 @@ module _ (hd : Header) (st : Start) where
   plain_fits lines (body.Aborted l cause.Doomed) is = tt
   plain_fits lines (body.Aborted l (cause.Lost n)) is = tt
   plain_fits lines (body.Aborted l (cause.Conflict u m n)) is = absurd (cc is)
-  plain_fits lines (body.Aborted l (cause.Changed n d)) is = tt
+  plain_fits lines (body.Aborted l (cause.Changed n d)) is = absurd (cc is)
   plain_fits lines (body.Aborted l (cause.Old n x v)) is = absurd (cc is)
   plain_fits lines b is = tt
 
@@ -175,6 +176,15 @@ module _ (hd : Header) (st : Start) where
               (old_row hd st form before event k d t M (h.0, h.1.2) made from m there a y v (is ∙ ap (λ z. Some (a, z)) reply) w p left
               found now
               (subst (λ z. Words.waits_for_commit from a z (Words.Preparing p left) ≡ true) reply waits) early g starts)),
+          all,
+        )
+        by outs (EndsChanged w machine c n rest found now waits changes are all) = inr (
+          body.Aborted w.label (cause.Changed n (Words.differs c)),
+          rest,
+          are,
+          (λ g header starts at. subst (λ z. is_changed_so z (body.Aborted w.label (cause.Changed n (Words.differs c))) ≡ true)
+              (λ i. record g { header = sym header i; lines = sym at i })
+              (changed_row hd st before event k d t M (h.0, h.1.2) made from m there a r is w machine c n found now waits changes g starts)),
           all,
         )
 
@@ -357,6 +367,11 @@ old_cause : (hd : Header) (st : Start) (h : Here) (b : Body) → h.header ≡ hd
 old_cause hd st h (body.Aborted l (cause.Old n x v)) header starts its so = so.0 so.1 h header starts refl
 old_cause hd st h b header starts its so = absurd (cc its)
 
+changed_cause : (hd : Header) (st : Start) (h : Here) (b : Body) → h.header ≡ hd → h.start ≡ st → is_changed_abort b ≡ true →
+    IsSo hd st h.lines b → is_changed_so h b ≡ true
+changed_cause hd st h (body.Aborted l (cause.Changed n d)) header starts its so = so.0 h header starts refl
+changed_cause hd st h b header starts its so = absurd (cc its)
+
 pub listed_row : RowHolds is_listed_abort
 listed_row hd r form = rows_so hd r.start has_cause (λ h. is_listed_abort) (listed_cause hd r.start) (journal_by hd r) (each_line hd r form)
     (FramesStep hd) (run_events hd r) (frames_are_caused hd r form)
@@ -372,4 +387,10 @@ met_row hd r form = rows_so hd r.start has_cause (λ h. is_met_abort) (met_cause
 -- each that a store refused as too late has this much of its cause
 pub old_test : TestHolds is_old_so is_old_abort
 old_test hd r form = rows_so hd r.start is_old_so (λ h. is_old_abort) (old_cause hd r.start) (journal_by hd r) (each_line hd r form)
+    (FramesStep hd) (run_events hd r) (frames_are_caused hd r form)
+
+-- each that a server, or naming, refused since something changed has this much of its cause
+pub changed_test : TestHolds is_changed_so is_changed_abort
+changed_test hd r form = rows_so hd r.start is_changed_so (λ h. is_changed_abort) (changed_cause hd r.start) (journal_by hd r)
+    (each_line hd r form)
     (FramesStep hd) (run_events hd r) (frames_are_caused hd r form)

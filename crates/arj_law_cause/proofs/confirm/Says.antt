@@ -4,7 +4,7 @@ use Words.{⊤, ◌≡◌, ◌∙◌, ◌==◌, ◌++◌, ℕ, Bool, true, false
 use Words.{and_parts, inl, inr, list_all, option_map, eqb-true, uid_number, numbered, Served, Ask, ConfirmedReply, Head, Header, Line}
 use Words.{Message, Reply, Uid, actor, asks, asked_by, response}
 use Words.{is_listed, is_on, top_of, Grants, Marks, confirm, first_of_each, has_all, marked, other_grant, conflict_in, Disk, Effect}
-use Words.{Do, Say, Send, entry_of, listed_entry, is_over, same_nodes, Handled, Parts, Took, Void, handle_ask, serve, served}
+use Words.{Do, Say, Send, entry_of, listed_entry, is_over, same_nodes, Handled, Parts, Took, Void, handle, handle_ask, is_meant, serve, served}
 use Words.{sends_answer}
 use Words.{if_naming, with_naming, Naming, Named, Node, Post, Seen, at_number, AllByRecursion, In}
 use Words.{◌⊎◌, ◌<◌, ⊎_elim, ObjectState, IsFormed, entry_state, held_at, stores_after}
@@ -29,7 +29,7 @@ use Rattle.arj_law_disk_view.specs.view.Sees as sees
 use Rattle.arj_law_lock_view.proofs.Terms.{same_number}
 use Rattle.arj_law_lock_view.specs.moments.Made.{Saying, Tells, lines_behind}
 use Rattle.arj_law_parts.proofs.moves.Happens.{Wide}
-use Rattle.arj_law_parts.specs.moves.Moments.{Moment, up}
+use Rattle.arj_law_parts.specs.moves.Moments.{Moment, is_restart, up}
 use Rattle.arj_law_parts.specs.moves.Seen as seen
 use Rattle.arj_law_promise.proofs.meant.Requests.{meant_keep}
 use Rattle.arj_law_promise.specs.meant.Meant.{AskFits, MeantAreKnown}
@@ -47,6 +47,7 @@ use Rattle.arj_law_cause.proofs.rows.Meeting.{meets_by}
 use Rattle.arj_law_cause.specs.rows.Tables.{Tables}
 use Rattle.arj_law_cause.proofs.confirm.{Began.acts_new, Conflicts.Hinders, Conflicts.IsHindered, Conflicts.Meets, Conflicts.changed_by}
 use Rattle.arj_law_cause.proofs.confirm.{Conflicts.conflicts, Entries.decided_more, Entries.entry_below, Entries.entry_writer}
+use Rattle.arj_law_cause.proofs.confirm.Changes.{changed_says, says_changed}
 use Rattle.arj_law_cause.proofs.confirm.Olds.{IsTooLate, says_late, too_late}
 use Rattle.arj_law_cause.proofs.confirm.{Entries.next_not_old, Entries.starts_keep, Labels.written}
 use Rattle.arj_law_runs.proofs.journal.{Books.sane_lines, Books.sane_new, Models.act_there, Models.its_acts}
@@ -94,9 +95,10 @@ says_of hd st h (ask.Prepare states) (Reply.Prepared (prepared.Old y v)) before 
     is_called before (actor h.path) × says_late st h states y v before
 says_of hd st h a r before = ⊤
 
--- so it is of an answer, in a run with this start
+-- so it is of an answer, in a run with this start, and so much where it says that something changed
 abbrev pub confirms_so : Header → Start → Saying
 confirms_so hd st a before = says_of hd st (let z = a in z.head) (let z = a in z.ask) (let z = a in z.reply) before
+    × says_changed st (let z = a in z.from) (let z = a in z.head) (let z = a in z.ask) (let z = a in z.reply) before
 
 -- ---- where naming serves it
 
@@ -524,21 +526,31 @@ Shows hd before event M = Tables hd before event M × Wide (Reached hd) M
 abbrev pub ShowsFrom : Header → Start → List Line → ℕ → Moment → Type 0
 ShowsFrom hd st before event M = Shows hd before event M × ((let N = M.seen in N.start) ≡ st)
 
-pub tells : (hd : Header) (st : Start) → HeaderInForm hd → (before : List Line) (event : ℕ) →
-    ((j : ℕ) → (event == up_of j before) ≡ false) →
-    Tells (ShowsFrom hd st before event) (confirms_so hd st)
-tells hd st form before event early k d t v from m h (ask.Confirm grants gone more) r front M known there other meant asking new is =
-    let s = known.0.0.0.1 in
-    let served_so = sym (ap (handle_ask k d t from m) asking) ∙ is in
-    confirm_says hd st form k d t v from m h grants gone more r front M known.0.1 there asking
-    (table_then hd before event early k d t v from m front (response (asked_by h) r) M s.0 s.1 s.2 known.0.0.1 other there meant is
-    (silent_front k d t v from h (ask.Confirm grants gone more) r front served_so)).0 served_so
-tells hd st form before event early k d t v from m h (ask.Bind x include avoid) r front M known there other meant asking new is = tt
-tells hd st form before event early k d t v from m h (ask.Load x) r front M known there other meant asking new is = tt
-tells hd st form before event early k d t v from m h (ask.Activate b state) r front M known there other meant asking new is = tt
-tells hd st form before event early k d t v from m h (ask.Record x b i g) r front M known there other meant asking new is = tt
-tells hd st form before event early k d t v from m h (ask.Invoke x b i ends op) r front M known there other meant asking new is = tt
-tells hd st form before event early k d t v from m h (ask.Vote i ties ends) r front M known there other meant asking new is = tt
-tells hd st form before event early k d t v from m h (ask.Prepare states) r front M known there other meant asking new is =
-    prepare_says hd st form k d t v from m h states r front M known.0.1 known.1 there asking
-    (sym (ap (handle_ask k d t from m) asking) ∙ is)
+module _ (hd : Header) (st : Start) (form : HeaderInForm hd) (before : List Line) (event : ℕ)
+    (early : (j : ℕ) → (event == up_of j before) ≡ false) where
+  commits_say : (k : ℕ) (d : Disk) (t v : Parts) (from : ℕ) (m : Message) (h : Head) (a : Ask) (r : Reply) (front : List Effect)
+      (M : Moment) → ShowsFrom hd st before event (up k d t M) → seen.In (record { from = from; to = k; message = m }) M.seen.sent →
+      is_restart M.past.event ≡ false → is_meant t m ≡ true → asks m ≡ Some (h, a) →
+      handle k d t from m ≡ Took v (front ++ Send from (response (asked_by h) r) ∷ [])
+      → says_of hd st h a r (lines_behind M.past.number front M.seen.lines)
+  commits_say k d t v from m h (ask.Confirm grants gone more) r front M known there other meant asking is =
+      let s = known.0.0.0.1 in
+      let served_so = sym (ap (handle_ask k d t from m) asking) ∙ is in
+      confirm_says hd st form k d t v from m h grants gone more r front M known.0.1 there asking
+      (table_then hd before event early k d t v from m front (response (asked_by h) r) M s.0 s.1 s.2 known.0.0.1 other there meant is
+      (silent_front k d t v from h (ask.Confirm grants gone more) r front served_so)).0 served_so
+  commits_say k d t v from m h (ask.Bind x include avoid) r front M known there other meant asking is = tt
+  commits_say k d t v from m h (ask.Load x) r front M known there other meant asking is = tt
+  commits_say k d t v from m h (ask.Activate b state) r front M known there other meant asking is = tt
+  commits_say k d t v from m h (ask.Record x b i g) r front M known there other meant asking is = tt
+  commits_say k d t v from m h (ask.Invoke x b i ends op) r front M known there other meant asking is = tt
+  commits_say k d t v from m h (ask.Vote i ties ends) r front M known there other meant asking is = tt
+  commits_say k d t v from m h (ask.Prepare states) r front M known there other meant asking is =
+      prepare_says hd st form k d t v from m h states r front M known.0.1 known.1 there asking
+      (sym (ap (handle_ask k d t from m) asking) ∙ is)
+
+  pub tells : Tells (ShowsFrom hd st before event) (confirms_so hd st)
+  tells k d t v from m h a r front M known there other meant asking new is = (
+    commits_say k d t v from m h a r front M known there other meant asking is,
+    changed_says hd st k d t v from m h r front M known.0.1 known.1 there a asking (sym (ap (handle_ask k d t from m) asking) ∙ is),
+  )

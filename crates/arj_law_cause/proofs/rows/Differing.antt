@@ -348,7 +348,7 @@ module _ (k : ℕ) (d : Disk) (t v : Parts) (from : ℕ) (m : Message) (h : Head
   here : (let N = up k d t M in N.seen.nodes k) ≡ Some (record { number = k; disk = d; live = Some t })
   here = λ i. cond (same_number k i) (Some (record { number = k; disk = d; live = Some t })) (M.seen.nodes k)
 
-  level : incarnation M.seen.start M.seen.lines k ≡ (let s = t.server in s.inc)
+  pub level : incarnation M.seen.start M.seen.lines k ≡ (let s = t.server in s.inc)
   level = (let q = known.2.0.1.0.1 k (record { number = k; disk = d; live = Some t }) here in q.1 t refl).0
       ∙ sym (let u = it 0 k d t (seen.with_sent known.0 M.seen) known.2.0.0.0.0.0 in u.server)
 

@@ -162,6 +162,11 @@ abbrev pub is_old_abort : Body → Bool
 is_old_abort (body.Aborted l (cause.Old n x v)) = true
 is_old_abort _ = false
 
+-- a server, or naming, refused the commit since something changed
+abbrev pub is_changed_abort : Body → Bool
+is_changed_abort (body.Aborted l (cause.Changed n d)) = true
+is_changed_abort _ = false
+
 -- a giveup named a node
 abbrev pub is_node_given_up : Body → Bool
 is_node_given_up (body.GaveUp l n) = true

@@ -8,6 +8,9 @@ use Rattle.arj_class.specs.Table.{writes}
 use Rattle.arj_journal.specs.declared.body.Body.{Body}
 use Rattle.arj_journal.specs.declared.body.Body.TheVariants as body
 use Rattle.arj_journal.specs.declared.body.Cause.TheVariants as cause
+use Rattle.arj_journal.specs.declared.body.Difference.{Difference}
+use Rattle.arj_journal.specs.declared.body.Difference.TheVariants as difference
+use Rattle.arj_journal.specs.declared.body.FrameKind.{FrameKind}
 use Rattle.arj_journal.specs.declared.body.FrameKind.TheVariants as frame
 use Rattle.arj_journal.specs.declared.body.Line.{Line}
 use Rattle.arj_journal.specs.declared.body.Role.TheVariants as role
@@ -19,8 +22,9 @@ use Rattle.arj_model.specs.CauseEnds.{is_commit_of}
 use Rattle.arj_model.specs.CausePends.{changes}
 use Rattle.arj_model.specs.CauseSpans.{Here, answered, behind, commit_here, commits_so, holds_in}
 use Rattle.arj_model.specs.Last.{listed}
-use Rattle.arj_model.specs.Refusals.{holds_of}
+use Rattle.arj_model.specs.Refusals.{holds_of, incarnation}
 use Rattle.arj_protocol.specs.Tree.{is_nested}
+use Rattle.arj_start.specs.Start.{Start}
 use Rattle.arj_law_cause.specs.rows.Says.{may_prepare}
 
 -- By the line the store has prepared something for this action; or it stopped, where the action's node may have asked it by then to.
@@ -54,3 +58,19 @@ abbrev pub is_old_so : Here → Body → Bool
 is_old_so h (body.Aborted l (cause.Old n x v)) = nat_le 1 v && commits_so h (name l) (λ a c. changes h.lines a.id x
     && answered h c a.uid.node n (frame.Prepared ∷ []) (λ before. nat_le v ((h.start.marks.states x).version + writers before x)))
 is_old_so h _ = true
+
+-- the frames in which a node answers that so much changed: a server its Vote, and naming, by its incarnation alone, its Confirm
+abbrev pub change_kinds : Difference → List FrameKind
+change_kinds (difference.Inc had now) = frame.Voted ∷ frame.Confirmed ∷ []
+change_kinds (difference.Bind had now) = frame.Voted ∷ []
+
+-- behind these lines the node is in the incarnation that is named as its own, and that isn't the one that was asked for
+abbrev pub shows_change : Start → ℕ → Difference → List Line → Bool
+shows_change st n (difference.Inc had now) before = (incarnation st before n == now) && not (had == now)
+shows_change st n (difference.Bind had now) before = true
+
+-- `aborted` with `changed`, as much as the node told: since the commit was called it answered so, being in that incarnation then
+abbrev pub is_changed_so : Here → Body → Bool
+is_changed_so h (body.Aborted l (cause.Changed n d)) =
+    commits_so h (name l) (λ a c. answered h c a.uid.node n (change_kinds d) (shows_change h.start n d))
+is_changed_so h _ = true
