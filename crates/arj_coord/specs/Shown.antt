@@ -1,4 +1,5 @@
 -- What the coordinator's enums are as the protocol has them.
+use Rattle.std.specs.Prelude.{List, [], ◌∷◌, Option, Some, None}
 use Rattle.arj_commit.specs.Steps.{voting, preparing}
 use Rattle.arj_coord.specs.declared.effect.Effect.{Effect}
 use Rattle.arj_coord.specs.declared.ending.EndLine.{EndLine}
@@ -40,3 +41,8 @@ abbrev pub line_of : EndLine → Label → Body
 line_of EndLine.Committed l = body.Committed l
 line_of EndLine.Ended l = body.Ended l
 line_of (EndLine.Aborted why) l = body.Aborted l why
+
+-- what is said where there is a line
+abbrev pub said : Option Body → List protocol.Effect
+said None = []
+said (Some b) = protocol.Say b ∷ []

@@ -1,8 +1,7 @@
 // The decision of a commit, its acknowledgements and queries.
-ghost use Rattle.std.specs.Prelude.{◌≡◌, ◌++◌, false, is_some, option_map, IfOk, IfSome, OnOk};
-ghost use Rattle.arj_commit.specs.Tolds.{work_of};
+ghost use Rattle.std.specs.Prelude.{◌≡◌, ◌++◌, false, is_some, option_map, IfOk, OnOk};
 ghost use Rattle.arj_coord.specs.Ended.{record_in, awaiting, without_node, left_by};
-ghost use Rattle.arj_intent.specs.Records.{IsInForm, shown};
+ghost use Rattle.arj_intent.specs.Records.{shown};
 ghost use Rattle.arj_protocol.specs.Ask.{actor};
 ghost use Rattle.arj_protocol.specs.Coord.{doing_of, is_kept_top};
 ghost use Rattle.arj_protocol.specs.Ending as endings;
@@ -10,26 +9,16 @@ ghost use Rattle.arj_protocol.specs.Ending.{answer_decided, answer_recorded, is_
 ghost use Rattle.arj_protocol.specs.Order.{at_uid, without_uid};
 ghost use Rattle.arj_protocol.specs.Tree.{branch_of};
 
+use crate::deciding::put_decision;
 use crate::ending::EndLine;
 use crate::records::record_of;
-use crate::tolds::{has, one_end, send_all, tell, tell_all};
+use crate::tolds::{has, one_end, tell, tell_all};
 use crate::{Coord, Effects, Record, Records};
 use arj_base::{End, NodeList, Uid};
 use arj_commit::Telling;
 use arj_intent::Intent;
 use arj_tree::Kind;
 use std::alloc::AllocError;
-
-// The record is put, if there is one.
-fn put_record(intent: Option<Intent>, outs: &mut Effects) -> Result<(), AllocError>
-    requires { IfSome intent IsInForm }
-    ensures { OnOk result (outs.new ≡ outs.old ++ work_of intent) }
-{
-    match intent {
-        Some(intent) => outs.put_record(intent),
-        None => Ok(()),
-    }
-}
 
 // What a record says, in other memory.
 fn awaited(intent: &Option<Intent>) -> Result<Option<Record>, AllocError>
@@ -62,9 +51,7 @@ impl Coord {
         let awaited = awaited(&intent)?;
         let first = telling.first(self.alloc)?;
         let top = telling.plan().path.last();
-        put_record(intent, outs)?;
-        self.says(top, EndLine::Committed, outs)?;
-        send_all(first, outs)?;
+        put_decision(intent, self.line(top, EndLine::Committed), first, outs)?;
         self.decided(telling, awaited)
     }
 

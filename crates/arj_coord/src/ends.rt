@@ -2,35 +2,38 @@
 ghost use Rattle.std.specs.Prelude.{◌≡◌, ◌++◌, ◌∷◌, [], not, false, filter, IfOk, OnOk};
 ghost use Rattle.std.specs.List.{flat_map};
 ghost use Rattle.arj_base.specs.declared.mode.End.TheVariants as ending;
-ghost use Rattle.arj_coord.specs.Shown.{line_of};
+ghost use Rattle.arj_coord.specs.Shown.{line_of, said};
 ghost use Rattle.arj_protocol.specs.Coord as coord;
 ghost use Rattle.arj_protocol.specs.Coord.{root_at};
 ghost use Rattle.arj_protocol.specs.Ending as endings;
 ghost use Rattle.arj_protocol.specs.Ending.{all_aborted, ended, is_deferred, says, tell_all, tolds_of, up_to};
 ghost use Rattle.arj_protocol.specs.Tree.{ends_of};
 
+use crate::deciding::say;
 use crate::ending::{EndLine, body};
 use crate::tolds::{not_deferred, one_end, tell_all, up_to};
 use crate::{Coord, Effects, Records};
 use arj_base::{End, NodeList, Uid};
-use arj_journal::Cause;
+use arj_journal::{Body, Cause};
 use arj_tree::Kind;
 use std::alloc::AllocError;
 
 impl Coord {
-    // A line of an end, by the action's label.
-    pub(crate) fn says(
-        &self,
-        action: Uid,
-        line: EndLine,
-        outs: &mut Effects,
-    ) -> Result<(), AllocError>
-        ensures { OnOk result (outs.new ≡ outs.old ++ says action (line_of line) self.now) }
+    // The line of an end, by the action's label.
+    pub(crate) fn line(&self, action: Uid, line: EndLine) -> Option<Body>
+        ensures { said result ≡ says action (line_of line) self.now }
     {
         match self.label(action) {
-            Some(label) => outs.say(body(line, label)),
-            None => Ok(()),
+            Some(label) => Some(body(line, label)),
+            None => None,
         }
+    }
+
+    // A line of an end, by the action's label.
+    fn says(&self, action: Uid, line: EndLine, outs: &mut Effects) -> Result<(), AllocError>
+        ensures { OnOk result (outs.new ≡ outs.old ++ says action (line_of line) self.now) }
+    {
+        say(self.line(action, line), outs)
     }
 
     // An action ends, and waits for nothing.

@@ -10,6 +10,7 @@
 
 mod coord;
 mod decided;
+mod deciding;
 mod doing;
 mod doings;
 mod effect;
