@@ -8,12 +8,11 @@ ghost use Rattle.arj_script.specs.Events.{LabelAtInForm, LabelInLabel, label_at_
 ghost use Rattle.arj_script.specs.Events.{CallInForm, IncludeInForm, JunkInForm, StopInForm, call_text, include_text, junk_text, stop_text};
 ghost use Rattle.arj_journal.specs.ScriptForm.{FrameNoInForm, StopKindInForm};
 
+use crate::front::after;
 use arj_base::Bytes;
 use arj_class::Op;
 use arj_journal::{FrameNo, Label, STOP_CALLS, StopKind};
-use arj_text::field::{
-    SHORT_MAX, WORD_MAX, after, is_text, label_first, label_of, number, number_first,
-};
+use arj_text::field::{SHORT_MAX, WORD_MAX, is_text, label_first, label_of, number, number_first};
 use arj_text::field_hex::hex;
 use arj_text::field_value::operation;
 use std::alloc::{AllocError, Global};

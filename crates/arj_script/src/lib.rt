@@ -14,6 +14,7 @@ mod event;
 mod event_part;
 mod fault;
 mod form;
+mod front;
 mod laws;
 mod limits;
 mod place;
