@@ -3,3 +3,4 @@ pub mod Taking
 pub mod InOrder
 pub mod KeepingOn
 pub mod Hearing
+pub mod Invoking

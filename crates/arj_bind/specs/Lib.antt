@@ -2,3 +2,4 @@ pub mod Asking
 pub mod Shown
 pub mod Heard
 pub mod Laws
+pub mod Invoking

@@ -15,6 +15,7 @@ mod at;
 mod binding;
 mod goal;
 mod grant;
+mod invoked;
 mod keeping;
 mod known;
 mod laws;

@@ -1,5 +1,5 @@
 // The steps of a call or an include, of which one request waits.
-ghost use Rattle.std.specs.Prelude.{◌≡◌, List, IfOk, IfErr, OnOk, OnErr, is_some, option_copied};
+ghost use Rattle.std.specs.Prelude.{◌≡◌, ℕ, Bool, List, [], true, IfOk, IfErr, OnOk, OnErr, is_some, option_copied};
 ghost use Rattle.arj_base.specs.declared.mode.End.{End};
 ghost use Rattle.arj_base.specs.declared.uid.Uid.{Uid};
 ghost use Rattle.arj_msg.specs.Ask.{request};
@@ -12,6 +12,7 @@ ghost use Rattle.arj_bind.specs.Shown.{goal_of, at_of, next_of};
 ghost use Rattle.arj_bind.specs.Heard.{known_in, stores_in, heard_in, hears, gives_up, came_of, came_by, granted_in, is_awaited};
 
 use crate::at::{At, BindStep, InvokeStep};
+use crate::invoked::{end_by, is_change};
 use crate::known::copy_state;
 use crate::moved::{Next, has_changed, is_ended};
 use crate::{CallStep, Goal, Grant, Keeping, Known, Unanswered};
@@ -177,6 +178,9 @@ impl CallSteps {
         if !self.takes(from, &message) {
             return Ok(CallStep::Foreign(self));
         }
+        if self.invokes() {
+            return Ok(self.invoked(message, keeping));
+        }
         let Ok(spare) = stores_again(alloc, &message) else {
             return Err(Unanswered {
                 steps: self,
@@ -195,6 +199,18 @@ impl CallSteps {
         let moved = at.answered(free, kept, &asking.goal, Box::into_inner(message), spare);
         keeping.keeps_after(&asking.goal, was, has_changed(&moved.next), moved.kept);
         Ok(step(asking, moved.next))
+    }
+
+    // After the answer to the Invoke, for which the steps wait: they end, and what the root keeps of the object stays.
+    fn invoked(self, message: Box<Message>, keeping: &mut Keeping) -> CallStep
+        requires { is_invoke_ask (next_ask [] self) ≡ true }
+        ensures came { (free : Bool) (from : ℕ) → is_some (heard_in from message.value self) ≡ true → came_of result ≡ (hears free keeping.old self (heard_in from message.value self)).came }
+        ensures keeping { (free : Bool) (from : ℕ) → is_some (heard_in from message.value self) ≡ true → keeping.new ≡ (hears free keeping.old self (heard_in from message.value self)).keeping }
+    {
+        let asking = self.asking;
+        let end = end_by(asking.at.node(), Box::into_inner(message));
+        keeping.loses(&asking.goal, is_change(&end));
+        CallStep::Ended(end)
     }
 
     /// Goes on after a giveup, to the next store of a load, or ends: lost. A call that is lost where the server may have the

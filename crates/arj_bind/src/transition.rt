@@ -12,6 +12,7 @@ ghost use Rattle.arj_bind.specs.Heard.{told_stores, stores_in, stores_of, known_
 
 use crate::at::{ActivateStep, At, BindStep, InvokeStep, LoadStep, RecordStep};
 use crate::binding::{activated_by, bound_by, recorded_kept};
+use crate::invoked::end_of_invoke;
 use crate::moved::{Moved, Next, finds, moves};
 use crate::reply::{Reply, reply_of};
 use crate::{CallEnd, Goal, Known};
@@ -172,14 +173,7 @@ impl InvokeStep {
     fn answered(self, kept: Option<Known>, reply: InvokedReply) -> Moved
         ensures { moved_of result ≡ invoked_answer kept self.known reply }
     {
-        let server = self.known.server;
-        match reply {
-            InvokedReply::Answered(answer) => finds(kept, CallEnd::Answered(answer)),
-            InvokedReply::Conflict { holder, mode } => {
-                finds(kept, conflict(holder, mode, server))
-            }
-            InvokedReply::Changed(what) => finds(kept, changed(server, what)),
-        }
+        finds(kept, end_of_invoke(self.known.server, reply))
     }
 }
 
