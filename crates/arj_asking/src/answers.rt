@@ -151,14 +151,15 @@ fn hear_call(
     ensures part { OnOk result ((c : coordinator.Coord) → coord.old ≡ on_doing (actor steps.path) idle_doing c → delivery.free ≡ is_free (root_of steps.path) (actor steps.path) steps.x c → IfSome (heard_in delivery.from delivery.message.value steps) (λ r. coord.new ≡ (heard_call steps r c).part)) }
     ensures outs { OnOk result ((c : coordinator.Coord) → coord.old ≡ on_doing (actor steps.path) idle_doing c → delivery.free ≡ is_free (root_of steps.path) (actor steps.path) steps.x c → IfSome (heard_in delivery.from delivery.message.value steps) (λ r. outs.new ≡ outs.old ++ (heard_call steps r c).outs)) }
 {
-    let caller = caller_of(alloc, &steps)?;
+    let goal = steps.goal().copy(alloc)?;
+    let mut caller = caller_of(&steps, goal);
     let Delivery {
         from,
         message,
         free,
     } = delivery;
     let step = coord.answered(steps, from, message, free)?;
-    step_call(alloc, coord, caller, step, outs)
+    step_call(alloc, coord, &mut caller, step, outs)
 }
 
 // ---- any answer

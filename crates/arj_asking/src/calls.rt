@@ -25,6 +25,7 @@ use arj_class::Op;
 use arj_coord::{Coord, Effects, Now};
 use arj_tree::TreeFault;
 use std::alloc::{AllocError, Global};
+use std::mem;
 
 // ---- a call starts
 
@@ -119,15 +120,15 @@ pub struct Caller {
     pub goal: Goal,
 }
 
-/// Who calls by these steps.
-pub fn caller_of(alloc: Global, steps: &CallSteps) -> Result<Caller, AllocError>
-    ensures { IfOk result (λ caller. IsCaller caller steps.now) }
+/// Who calls by these steps, whose goal is this one.
+pub fn caller_of(steps: &CallSteps, goal: Goal) -> Caller
+    ensures { goal_of goal ≡ steps.now.goal → IsCaller result steps.now }
 {
-    Ok(Caller {
+    Caller {
         path: *steps.path(),
         x: steps.object(),
-        goal: steps.goal().copy(alloc)?,
-    })
+        goal,
+    }
 }
 
 // The action waits in this step from now on, and it is asked.
@@ -182,23 +183,25 @@ fn doom_if(coord: &mut Coord, action: Uid, sent: bool)
     }
 }
 
-// A call or an include has ended; its action waits for nothing.
+// A call or an include has ended; its action waits for nothing. The caller's goal is taken out.
 fn end_call(
     alloc: Global,
     coord: &mut Coord,
-    caller: Caller,
+    caller: &mut Caller,
     end: CallEnd,
     outs: &mut Effects,
 ) -> Result<(), AllocError>
-    requires { EndFits caller.x (asking.store_of (goal_of caller.goal)) (end_of end) }
-    ensures part { OnOk result ((s : steps.Steps) (c : coordinator.Coord) → IsCaller caller s → coord.old ≡ on_doing (actor s.path) idle_doing c → coord.new ≡ (ends_call s (end_of end) c).part) }
-    ensures outs { OnOk result ((s : steps.Steps) (c : coordinator.Coord) → IsCaller caller s → coord.old ≡ on_doing (actor s.path) idle_doing c → outs.new ≡ outs.old ++ (ends_call s (end_of end) c).outs) }
+    requires { EndFits caller.old.x (asking.store_of (goal_of caller.old.goal)) (end_of end) }
+    ensures part { OnOk result ((s : steps.Steps) (c : coordinator.Coord) → IsCaller caller.old s → coord.old ≡ on_doing (actor s.path) idle_doing c → coord.new ≡ (ends_call s (end_of end) c).part) }
+    ensures outs { OnOk result ((s : steps.Steps) (c : coordinator.Coord) → IsCaller caller.old s → coord.old ≡ on_doing (actor s.path) idle_doing c → outs.new ≡ outs.old ++ (ends_call s (end_of end) c).outs) }
 {
-    let Caller { path, x, goal } = caller;
+    let goal = mem::replace(&mut caller.goal, Goal::Include(0));
     let store = store_of(&goal);
     let sent = was_sent(&end);
+    let x = caller.x;
+    let path = &caller.path;
     say_end(alloc, coord, path.last(), x, goal, &end, outs)?;
-    note_end(coord, &path, x, store, end)?;
+    note_end(coord, path, x, store, end)?;
     doom_if(coord, path.last(), sent);
     Ok(())
 }
@@ -207,13 +210,13 @@ fn end_call(
 pub fn step_call(
     alloc: Global,
     coord: &mut Coord,
-    caller: Caller,
+    caller: &mut Caller,
     step: CallStep,
     outs: &mut Effects,
 ) -> Result<(), AllocError>
-    requires { StepFits caller (came_of step) }
-    ensures part { OnOk result ((s : steps.Steps) (next : steps.CallStep) (c : coordinator.Coord) → IsCaller caller s → HasNext s → came_of step ≡ came_by s next → coord.old ≡ on_doing (actor s.path) idle_doing c → coord.new ≡ (asking.step_call s next c).part) }
-    ensures outs { OnOk result ((s : steps.Steps) (next : steps.CallStep) (c : coordinator.Coord) → IsCaller caller s → HasNext s → came_of step ≡ came_by s next → coord.old ≡ on_doing (actor s.path) idle_doing c → outs.new ≡ outs.old ++ (asking.step_call s next c).outs) }
+    requires { StepFits caller.old (came_of step) }
+    ensures part { OnOk result ((s : steps.Steps) (next : steps.CallStep) (c : coordinator.Coord) → IsCaller caller.old s → HasNext s → came_of step ≡ came_by s next → coord.old ≡ on_doing (actor s.path) idle_doing c → coord.new ≡ (asking.step_call s next c).part) }
+    ensures outs { OnOk result ((s : steps.Steps) (next : steps.CallStep) (c : coordinator.Coord) → IsCaller caller.old s → HasNext s → came_of step ≡ came_by s next → coord.old ≡ on_doing (actor s.path) idle_doing c → outs.new ≡ outs.old ++ (asking.step_call s next c).outs) }
 {
     match step {
         CallStep::On(steps) => go_on(alloc, coord, steps, outs),

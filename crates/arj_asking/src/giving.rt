@@ -45,9 +45,10 @@ fn give_up_call(
     ensures outs { OnOk result ((c : coordinator.Coord) → coord.old ≡ on_doing (actor steps.path) idle_doing c → outs.new ≡ outs.old ++ (gaveup_lines (actor steps.path) (next_node steps ∷ []) c ++ (give_up_call steps c).outs)) }
 {
     say_all_gave_up(coord, steps.path().last(), &[steps.node()], outs)?;
-    let caller = caller_of(alloc, &steps)?;
+    let goal = steps.goal().copy(alloc)?;
+    let mut caller = caller_of(&steps, goal);
     let step = coord.gave_up(steps)?;
-    step_call(alloc, coord, caller, step, outs)
+    step_call(alloc, coord, &mut caller, step, outs)
 }
 
 /// What an action waits for is given up; nothing happens where it waits for nothing. `intents` are the records on the

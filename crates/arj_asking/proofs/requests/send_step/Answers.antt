@@ -1,11 +1,10 @@
 use Rattle.std.proofs.Common.{◌∙◌, ap, ◌≡◌, ◌++◌}
 use Rattle.std.proofs.lemmas.Result.{on_ok_weaker}
 use Rattle.arj_asking.proofs.Sending.{step_asked}
-use Rattle.arj_asking.specs.Sent.{asked, goes_to}
-use Rattle.arj_protocol.specs.Asking.{asks_step}
+use Rattle.arj_asking.specs.Sent.{goes_to}
 use Rattle.arj_protocol.specs.Coord.{Coord}
 use Rattle.arj_protocol.specs.Effect.{Did}
-use Rattle.arj_protocol.specs.Tree.{Tree, ends_of, root_of}
+use Rattle.arj_protocol.specs.Tree.{ends_of, root_of}
 use Rattle.arj_protocol.specs.Words.{Path}
 use Rattle.arj_asking.proofs.requests.send_step.Goals as goal
 
