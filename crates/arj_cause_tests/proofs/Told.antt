@@ -24,7 +24,7 @@ use Rattle.arj_law_cause.specs.kinds.Kinds.{is_lock_lowered, is_lost_commit, is_
 use Rattle.arj_law_cause.specs.kinds.Kinds.{is_quiet, is_sent}
 use Rattle.arj_law_cause.specs.kinds.Kinds.{is_up, is_void}
 use Rattle.arj_law_cause.specs.kinds.Rows.{row, tested}
-use Rattle.arj_law_cause.specs.kinds.Tests.{is_changed_so, is_committed_so, is_old_so}
+use Rattle.arj_law_cause.specs.kinds.Tests.{is_changed_so, is_committed_so}
 use Rattle.arj_law_cause.specs.rows.Lines.{answer_fits}
 use Rattle.arj_law_cause.specs.waits.replies.Ends.{RepliesStep}
 use Rattle.arj_cause_tests.proofs.Words.{Run, after, b, end_from, instead, l, nodes, object_line, of_other_event, run, u, without}
@@ -57,9 +57,6 @@ abbrev failing : (Here → Body → Bool) → Run → List ℕ
 failing test r = failing_from test r.header nothing_yet r.wrote
 
 -- those of one kind that lack their cause
-abbrev old_fits : Here → Body → Bool
-old_fits = tested is_old_so (λ h. is_old_abort)
-
 abbrev changed_fits : Here → Body → Bool
 changed_fits = tested is_changed_so (λ h. is_changed_abort)
 
@@ -308,21 +305,34 @@ met_nothing = refl
 met_so : failing_of is_met_abort aborted_conflict ≡ []
 met_so = refl
 
--- `aborted` with `old`: not so many writers, version zero, before any of them committed, and no answer
-old_many : failing old_fits (instead 111 (body.Aborted (l 76) (cause.Old 4 1 2)) aborted_old) ≡ 111 ∷ []
+-- `aborted` with `old`: not so many writers, version zero, before any of them committed, no answer, no restart, one before the root entered,
+-- one of another node, and where the root entered another object
+old_many : failing_of is_old_abort (instead 111 (body.Aborted (l 76) (cause.Old 4 1 2)) aborted_old) ≡ 111 ∷ []
 old_many = refl
 
-old_none : failing old_fits (instead 111 (body.Aborted (l 76) (cause.Old 4 1 0)) aborted_old) ≡ 111 ∷ []
+old_none : failing_of is_old_abort (instead 111 (body.Aborted (l 76) (cause.Old 4 1 0)) aborted_old) ≡ 111 ∷ []
 old_none = refl
 
-old_early : failing old_fits (instead 86 (body.Aborted (l 87) (cause.Old 4 1 1)) aborted_old) ≡ 86 ∷ 111 ∷ []
+old_early : failing_of is_old_abort (instead 86 (body.Aborted (l 87) (cause.Old 4 1 1)) aborted_old) ≡ 86 ∷ 111 ∷ []
 old_early = refl
 
-old_silent : failing old_fits (instead 108 (body.Sent 41 5 2 frame.Prepared) aborted_old) ≡ 111 ∷ []
+old_silent : failing_of is_old_abort (instead 108 (body.Sent 41 5 2 frame.Prepared) aborted_old) ≡ 111 ∷ []
 old_silent = refl
 
+old_unrestarted : failing_of is_old_abort (without 25 aborted_old) ≡ 110 ∷ []
+old_unrestarted = refl
+
+old_restarted_before : failing_of is_old_abort (after 2 (body.Up 1 2 ∷ []) (without 25 aborted_old)) ≡ 111 ∷ []
+old_restarted_before = refl
+
+old_restarted_beside : failing_of is_old_abort (instead 25 (body.Up 4 2) aborted_old) ≡ 111 ∷ []
+old_restarted_beside = refl
+
+old_entered_beside : failing_of is_old_abort (instead 4 (body.Granted 1 (u 2 1 1) (u 0 1 2) Write) aborted_old) ≡ 111 ∷ []
+old_entered_beside = refl
+
 -- by its own run it is so
-old_so : failing old_fits aborted_old ≡ []
+old_so : failing_of is_old_abort aborted_old ≡ []
 old_so = refl
 
 -- `aborted` with `changed`, of a server: another incarnation than it has, its own twice, no answer, and one of a later life

@@ -1,7 +1,7 @@
 // Rows of causes: lines of the world, and what nodes do.
 ghost use Rattle.arj_law_cause.specs.kinds.Kinds.{is_abort_done, is_armed, is_bare_abort, is_changed_abort, is_commit_done, is_committed, is_copy_shown, is_denial, is_dropped, is_entry_shown, is_excluded, is_found, is_got, is_granted_object, is_granted_entry, is_halted, is_limit, is_listed_abort, is_lost_commit, is_met_abort, is_node_given_up, is_old_abort, is_opening, is_plain_refusal, is_prepared, is_quiet, is_sent, is_told, is_up, is_void};
 ghost use Rattle.arj_law_cause.specs.kinds.Rows.{RowHolds, RowHoldsWhere, TestHolds};
-ghost use Rattle.arj_law_cause.specs.kinds.Tests.{is_changed_so, is_committed_so, is_old_so};
+ghost use Rattle.arj_law_cause.specs.kinds.Tests.{is_changed_so, is_committed_so};
 
 /// In every run in form, wherever it begins and wherever disks stop, each line of a frame has its cause by the events and the lines before
 /// it, row by row: a frame that is sent has the next number and goes from a node that is up, or from nobody where the script hands over
@@ -111,14 +111,14 @@ pub fn giveups_have_causes()
 /// row there, as the first one against the exclude lock, on the entry of an object from which the action excludes a store. It is aborted for
 /// a state that a store refused as too late where the action changes the object, and the store answered its Prepare at a place of the span at
 /// which the object had the version that the store told, above zero, or a later one, by the committed tops that wrote it, counted from where
-/// the run began; that naming restarted since isn't said. It is aborted since something changed where a server voted so, or naming refused
-/// its Confirm so, at a place of the span; and an incarnation that the line names as the node's own is the one that the journal has there,
-/// and another one than the first that it names. It does nothing when it runs.
+/// the run began, and naming had come up again since the action's root first had a lock on the object's entry. It is aborted since something
+/// changed where a server voted so, or naming refused its Confirm so, at a place of the span; and an incarnation that the line names as the
+/// node's own is the one that the journal has there, and another one than the first that it names. It does nothing when it runs.
 pub fn refused_commits_have_causes()
     ensures listed { RowHolds is_listed_abort }
     ensures bare { RowHolds is_bare_abort }
     ensures met { RowHolds is_met_abort }
-    ensures old { TestHolds is_old_so is_old_abort }
+    ensures old { RowHolds is_old_abort }
     ensures changed { TestHolds is_changed_so is_changed_abort }
 {}
 

@@ -34,7 +34,7 @@ next_new node inc count k i M here now since (inr less) =
     low a b c same le below = omega (arith, same, le, below)
 
 module _ (hd : Header) where
-  since_all : (S : Seen) → Reached hd S → AreSince S
+  pub since_all : (S : Seen) → Reached hd S → AreSince S
   since_all S r = (reached_has hd (λ M. IsGood M × AreSince M) (keeps_asked hd (λ M. IsGood M × AreSince M)
       (kept_both hd IsGood AreSince (all_keep hd) (since_given hd))) S r).1
 

@@ -1,7 +1,7 @@
 -- What a store's answer to a Prepare says, where it refuses a state as too late: of which object that is, that it holds a version above
 -- zero, and that the journal counts as many.
 use Rattle.arj_law_parts.proofs.Words
-use Words.{◌≡◌, ◌≤◌, ◌∙◌, ◌+◌, ◌==◌, ◌&&◌, ◌||◌, not, ℕ, Bool, true, false, cond, if◌then◌else◌, List, [], ◌∷◌, Option, Some, None, refl}
+use Words.{◌≡◌, ◌≤◌, ◌<◌, ◌∙◌, ◌+◌, ◌==◌, ◌&&◌, ◌||◌, not, ℕ, Bool, true, false, cond, if◌then◌else◌, List, [], ◌∷◌, Option, Some, None, refl}
 use Words.{sym, ap}
 use Words.{subst, inl, inr, ⊎_elim, arith, nat_tests, nat_lt, is_some, and_parts, eqb-true, option_map, unwrap_or, AllByRecursion, In}
 use Words.{uid_is, uid_eq}
@@ -17,7 +17,7 @@ use Rattle.arj_journal.specs.ScriptForm.{HeaderInForm}
 use Rattle.arj_journal.specs.declared.limits.TheConstants.{OBJECTS}
 use Rattle.arj_law_disk.specs.machine.Core.{Core}
 use Rattle.arj_law_disk.specs.machine.State as disk
-use Rattle.arj_law_disk.specs.machine.State.{Known, Packed, State, target, state_for}
+use Rattle.arj_law_disk.specs.machine.State.{Below, Known, Packed, State, target, state_for}
 use Rattle.arj_law_disk.proofs.machine.Listing.{plain_target}
 use Rattle.arj_law_disk_view.proofs.Terms
 use Terms.{SeesBoth, SeesStore, SeesCoord}
@@ -37,7 +37,7 @@ use Rattle.arj_model.specs.Actions.{Act, acts, is_over}
 use Rattle.arj_model.specs.Last.{count_tops, object_line, writes_of}
 use Rattle.arj_law_cause.proofs.confirm.{Called.BasedCalled, Called.called_keep, Called.is_called, Joined.IsEarly, Joined.IsSeenSo}
 use Rattle.arj_law_cause.proofs.confirm.{Joined.seen_so}
-use Rattle.arj_law_cause.proofs.confirm.{Opened.IsAtCommit, Opened.at_commit, Opened.same_there, Reached.Reached, Reached.reached_has}
+use Rattle.arj_law_cause.proofs.confirm.{Opened.IsAtCommit, Opened.IsLeft, Opened.at_commit, Opened.same_there, Reached.Reached, Reached.reached_has}
 use Rattle.arj_law_cause.proofs.confirm.{Versions.held_low, Versions.zero_is_one}
 use Rattle.arj_law_cause.proofs.votes.Written.{changed_version}
 
@@ -149,7 +149,7 @@ module _ (hd : Header) (form : HeaderInForm hd) (Z : Seen) (reached : Reached hd
     (here : Z.nodes k ≡ Some (record { number = k; disk = d; live = Some t })) (from : ℕ) (m : Message)
     (sent : seen.In (record { from = from; to = k; message = m }) Z.sent) (h : Head) (states : List ObjectState)
     (asking : asks m ≡ Some (h, ask.Prepare states)) (w : Uid) (v : ℕ) (is : prepare_answer (actor h.path) states d.store ≡ Old w v) where
-  refusal : IsRefusal (actor h.path) d.store states w v
+  pub refusal : IsRefusal (actor h.path) d.store states w v
   refusal = old_found (actor h.path) d.store states w v (answer_first (first_refusal (actor h.path) d.store states) w v is)
 
   st : ObjectState
@@ -159,10 +159,10 @@ module _ (hd : Header) (form : HeaderInForm hd) (Z : Seen) (reached : Reached hd
   fits = let known : MeantAreKnown hd Z = reached_has hd (MeantAreKnown hd) (meant_keep hd form) Z reached in
       known.1 (record { from = from; to = k; message = m }) h (ask.Prepare states) sent asking
 
-  of : refusal.state.uid ≡ object w.num
+  pub of : refusal.state.uid ≡ object w.num
   of = of_objects states fits.0 refusal.state refusal.among ∙ ap (λ (u : Uid). object u.num) refusal.of
 
-  line : is_some (object_line hd w.num) ≡ true
+  pub line : is_some (object_line hd w.num) ≡ true
   line = object_some hd w.num (subst (λ (u : Uid). HasObject hd u.num) refusal.of
       (each_has hd states fits.1 refusal.state refusal.among))
 
@@ -170,12 +170,12 @@ module _ (hd : Header) (form : HeaderInForm hd) (Z : Seen) (reached : Reached hd
   called = (reached_has hd BasedCalled (called_keep hd) Z reached).1 (record { from = from; to = k; message = m }) h (ask.Prepare states)
       sent asking
 
-  held_there : held_at (object w.num) d.store ≡ Some refusal.held
+  pub held_there : held_at (object w.num) d.store ≡ Some refusal.held
   held_there = ap (λ u. held_at u d.store) (sym of) ∙ refusal.there
 
   module _ (early : IsEarly Z.lines) (a : Act) (began : In a (acts Z.lines)) (its : a.uid ≡ actor h.path)
       (opened : is_over Z.lines a ≡ false) where
-    c : IsAtCommit Z a.uid
+    pub c : IsAtCommit Z a.uid
     c = at_commit hd Z reached a began opened (subst (is_called Z.lines) (sym its) called)
 
     q : IsSeenSo hd w.num Z
@@ -207,33 +207,27 @@ module _ (hd : Header) (form : HeaderInForm hd) (Z : Seen) (reached : Reached hd
     begun : (let A = q.office in let W = A.world in W.disk.begun (uid_number (actor h.path))) ≡ true
     begun = let p = claims.planned in p.begun
 
-    -- its plan is the machine's
-    plan_is : (let A = q.office in let W = A.world in W.disk.plan (uid_number (actor h.path))) ≡ plan_at w.num (plan_of c.machine)
-    plan_is = ap (λ (u : Uid). let A = q.office in let W = A.world in W.disk.plan (uid_number u)) (sym its) ∙ by c.machine c.now
+    started : (let A = q.office in let W = A.world in W.disk.begun (uid_number a.uid)) ≡ true
+    started = ap (λ (u : Uid). let A = q.office in let W = A.world in W.disk.begun (uid_number u)) its ∙ begun
+
+    top : (let k = q.tops in k.is_top (uid_number a.uid)) ≡ true
+    top = (let z = both.disks in z.kinds (uid_number a.uid) started).0
+
+    coord : SeesCoord w.num (let u = a.uid in u.node) (let n = c.node in let d = n.disk in d.inc) q.tops (let t = c.parts in t.coord)
+        (let A = q.office in let W = A.world in W.disk)
+    coord = let z = both.disks in z.coords (let u = a.uid in u.node) c.node c.parts c.there c.live
+
+    working : sees.Works w.num q.tops (let A = q.office in let W = A.world in W.disk) (uid_number a.uid) (let b = c.branch in b.kind)
+        (let q = c.doing in q.now)
+    working = coord.working a.uid c.branch c.doing c.found c.unended c.does
+
+    -- it is past its votes
+    pub left : IsLeft c.machine
+    left = by c.machine c.now
       where
-        u : Uid
-        u = a.uid
-
-        coord : SeesCoord w.num (let u = a.uid in u.node) (let n = c.node in let d = n.disk in d.inc) q.tops (let t = c.parts in t.coord)
-            (let A = q.office in let W = A.world in W.disk)
-        coord = let z = both.disks in z.coords (let u = a.uid in u.node) c.node c.parts c.there c.live
-
-        started : (let A = q.office in let W = A.world in W.disk.begun (uid_number a.uid)) ≡ true
-        started = ap (λ (u : Uid). let A = q.office in let W = A.world in W.disk.begun (uid_number u)) its ∙ begun
-
-        top : (let k = q.tops in k.is_top (uid_number a.uid)) ≡ true
-        top = (let z = both.disks in z.kinds (uid_number a.uid) started).0
-
-        working : sees.Works w.num q.tops (let A = q.office in let W = A.world in W.disk) (uid_number a.uid) (let b = c.branch in b.kind)
-            (let q = c.doing in q.now)
-        working = coord.working a.uid c.branch c.doing c.found c.unended c.does
-
-        by : (k : Machine) → (let q = c.doing in q.now) ≡ Committing k →
-            (let A = q.office in let W = A.world in W.disk.plan (uid_number a.uid)) ≡ plan_at w.num (plan_of k)
-        by (Preparing p left) now = let z = preparing_of w.num q.tops (let A = q.office in let W = A.world in W.disk) (uid_number a.uid)
-            (let b = c.branch in b.kind) (let q = c.doing in q.now) p left top now working in z.plan
-        by (Confirming p) now = let z = confirming_of w.num q.tops (let A = q.office in let W = A.world in W.disk) (uid_number a.uid)
-            (let b = c.branch in b.kind) (let q = c.doing in q.now) p top now working in z.plan
+        by : (k : Machine) → (let q = c.doing in q.now) ≡ Committing k → IsLeft k
+        by (Preparing p left) now = inl (p, left, refl)
+        by (Confirming p) now = inr (p, refl)
         by (Voting p left) now =
             let idle = voting_idle (let b = c.branch in b.kind) (let q = c.doing in q.now) now working in
             let no_way : true ≡ false = sym (ap disk.is_idle idle) ∙ (let f = core.fresh in f.begun (uid_number a.uid) started) in
@@ -253,6 +247,49 @@ module _ (hd : Header) (form : HeaderInForm hd) (Z : Seen) (reached : Reached hd
                 subst (sees.WorksBy w.num (let A = q.office in let W = A.world in W.disk) (uid_number a.uid)) e z.1
             voting_idle Words.kind.Constituent n e z =
                 subst (sees.WorksBy w.num (let A = q.office in let W = A.world in W.disk) (uid_number a.uid)) e z.1
+
+    -- its plan is the machine's
+    plan_is : (let A = q.office in let W = A.world in W.disk.plan (uid_number (actor h.path))) ≡ plan_at w.num (plan_of c.machine)
+    plan_is = ap (λ (u : Uid). let A = q.office in let W = A.world in W.disk.plan (uid_number u)) (sym its) ∙ by left
+      where
+        by : IsLeft c.machine → (let A = q.office in let W = A.world in W.disk.plan (uid_number a.uid)) ≡ plan_at w.num (plan_of c.machine)
+        by (inl m) = (let z = preparing_of w.num q.tops (let A = q.office in let W = A.world in W.disk) (uid_number a.uid)
+            (let b = c.branch in b.kind) (let q = c.doing in q.now) m.0 m.1 top (c.now ∙ ap Committing m.2) working in z.plan)
+            ∙ ap (λ k. plan_at w.num (plan_of k)) (sym m.2)
+        by (inr m) = (let z = confirming_of w.num q.tops (let A = q.office in let W = A.world in W.disk) (uid_number a.uid)
+            (let b = c.branch in b.kind) (let q = c.doing in q.now) m.0 top (c.now ∙ ap Committing m.1) working in z.plan)
+            ∙ ap (λ k. plan_at w.num (plan_of k)) (sym m.1)
+
+    -- the store is one of its targets, and holds no state below what it sends
+    pub goal : target (plan_at w.num (plan_of c.machine)) k ≡ true
+    goal = ap (λ p. target p k) (sym plan_is) ∙ plan_says.0
+
+    pub unbelow : Below (packed refusal.held) (state_for (plan_at w.num (plan_of c.machine))) → ⊥
+    unbelow below = by (subst (Below (packed refusal.held)) (sym (plan_says.1 ∙ ap state_for plan_is)) below)
+      where
+        older : (x y : ℕ) (b : Bool) → (nat_lt x y || ((x == y) && b)) ≡ true → y < x → ⊥
+        older x y b on less = absurd (by_lt (nat_lt x y) refl on)
+          where
+            by_lt : (z : Bool) → nat_lt x y ≡ z → (z || ((x == y) && b)) ≡ true → ⊥
+            by_lt true e f = grind (arith, nat_tests, e, less)
+            by_lt false e f = let p = and_parts (x == y) b f in let same = eqb-true x y p.0 in omega (arith, same, less)
+
+        alike : (x y : ℕ) (b : Bool) → (nat_lt x y || ((x == y) && b)) ≡ true → y ≡ x → b ≡ true
+        alike x y b on same = by_lt (nat_lt x y) refl on
+          where
+            by_lt : (z : Bool) → nat_lt x y ≡ z → (z || ((x == y) && b)) ≡ true → b ≡ true
+            by_lt true e f = absurd (grind (arith, nat_tests, e, same))
+            by_lt false e f = (and_parts (x == y) b f).1
+
+        by : Below (packed refusal.held) (packed refusal.state) → ⊥
+        by (inl less) = older refusal.state.version refusal.held.version (not (state_eq refusal.state refusal.held)) refusal.old less
+        by (inr one) =
+            let other = alike refusal.state.version refusal.held.version (not (state_eq refusal.state refusal.held)) refusal.old
+            (ap (λ (p : Packed). p.version) one) in
+            let same : refusal.state ≡ refusal.held = one_state refusal.state refusal.held (sym one)
+            (of ∙ sym (let p = store.pair in p.keyed (object w.num) refusal.held held_there)) in
+            let no_way : false ≡ true = sym (ap not (ap (state_eq refusal.state) (sym same) ∙ same_state refusal.state)) ∙ other in
+            cc no_way
 
     -- a changed state is above zero
     above_zero : (st : ObjectState) → changed_of w.num (plan_of c.machine) ≡ Some st → 1 ≤ st.version

@@ -1,8 +1,8 @@
 -- An open action of the journal whose commit was called is at that commit, at its coordinator.
 use Rattle.arj_law_parts.proofs.Words
-use Words.{◌≡◌, ◌∙◌, ◌==◌, ◌&&◌, ◌||◌, not, ℕ, Bool, true, false, if◌then◌else◌, Option, Some, None, is_some, refl, sym, ap, subst, In}
+use Words.{◌≡◌, ◌⊎◌, ◌∙◌, ◌==◌, ◌&&◌, ◌||◌, not, ℕ, Bool, true, false, if◌then◌else◌, List, Option, Some, None, is_some, refl, sym, ap, subst, In}
 use Words.{and_parts, eqb-true, in_to, is_on, Header, Node, Parts, Seen, Uid, uid_eq, uid_same, Branch, branch_of, Committing, Doing}
-use Words.{Machine, Now, Calling, Idle, doing_of, is_committing_now, is_own}
+use Words.{Machine, Plan, Preparing, Confirming, Now, Calling, Idle, doing_of, is_committing_now, is_own}
 use Rattle.arj_law_parts.proofs.moves.Happens.{keeps_asked}
 use Rattle.arj_law_parts.specs.moves.Seen.{up}
 use Rattle.arj_law_runs.proofs.follow.Halts.{KnowsAll, halts_keep, is_alive}
@@ -38,6 +38,10 @@ pub record IsAtCommit (Z : Seen) (u : Uid) : Type 0 where
   pub machine : Machine
   pub does : doing_of u parts.coord ≡ Some doing
   pub now : doing.now ≡ Committing machine
+
+-- the prepare step runs, or the commit waits for naming
+abbrev pub IsLeft : Machine → Type 0
+IsLeft m = ((p : Plan) × (left : List ℕ) × (m ≡ Preparing p left)) ⊎ ((p : Plan) × (m ≡ Confirming p))
 
 module _ (hd : Header) (Z : Seen) (reached : Reached hd Z) (a : Act) (began : In a (acts Z.lines)) (opened : is_over Z.lines a ≡ false)
     (called : is_called Z.lines a.uid) where

@@ -1,11 +1,11 @@
--- Where a coordinator says that a store refused a commit's state as too late, the line has so much of its cause.
+-- Where a coordinator says that a store refused a commit's state as too late, the line has its cause.
 use Rattle.arj_law_parts.proofs.Words
 use Words.{◌≡◌, ◌≤◌, ◌∙◌, ◌+◌, ◌==◌, ◌&&◌, ℕ, Bool, true, false, if◌then◌else◌, List, [], ◌∷◌, length, Some, refl, sym, ap}
 use Words.{subst, inl, inr, ⊎_elim, is_some, and_parts, eqb-true, In, Asked, Header, Line, Message, Reply, Start, actor, answers, nat_le}
 use Words.{nat_tests, arith, name, Plan, Preparing}
 use Words.{states_for, ask_of, waits_for_commit, Committing, Doing, doing_of, Disk, Parts, Node, Seen, is_own, is_committing_now, has}
 use Words.{ask_kind}
-use Words.{reply_kind, Uid, is_waiting_now}
+use Words.{reply_kind, Uid, is_waiting_now, uid_eq, uid_same}
 use Words.ask
 use Words.body
 use Words.cause
@@ -26,27 +26,30 @@ use Rattle.arj_law_runs.proofs.journal.{Models.its_acts}
 use Rattle.arj_law_runs.proofs.journal.{Models.its_sound, Owners.acts_more}
 use Rattle.arj_law_runs.specs.journal.Book.{book, new_book}
 use Rattle.arj_law_runs.specs.journal.Right.{AreRight}
+use Rattle.arj_law_serial.proofs.Terms.{AreDistinct, any_in, path_by}
 use Rattle.arj_law_serial.proofs.joint.{MarkRuns.own_doing}
-use Rattle.arj_model.specs.Actions.{Act, acts, is_over}
-use Rattle.arj_model.specs.CauseCommits.{writers}
+use Rattle.arj_law_serial.proofs.order.Paths as paths
+use Rattle.arj_model.specs.Actions.{Act, acts, is_over, path, root_in}
+use Rattle.arj_model.specs.CauseCommits.{has_restarted, is_old, writers}
 use Rattle.arj_model.specs.CausePends.{changes}
 use Rattle.arj_model.specs.CauseSpans.{Here, answered, commit_here}
 use Rattle.arj_model.specs.Refusals.{is_committing}
 use Rattle.arj_law_cause.proofs.confirm.{Called.is_called, Joined.IsEarly, Joined.early_before}
 use Rattle.arj_law_cause.proofs.confirm.{Olds.IsTooLate, Olds.says_late, Reached.Reached}
-use Rattle.arj_law_cause.proofs.confirm.{Reached.reached_has, Says.ShowsFrom, Says.confirms_so, Says.says_of, Spans.commits_at, Spans.place}
+use Rattle.arj_law_cause.proofs.confirm.{Reached.reached_has, Says.ShowsFrom, Spans.commits_at, Spans.place}
+use Rattle.arj_law_cause.proofs.confirm.{Had.path_still, Losing.old_so, Losing.says_lost, Losing.says_old}
 use Rattle.arj_law_cause.proofs.confirm.Spans.{right_front}
+use Rattle.arj_law_cause.proofs.rows.{Entered.IsSettled, Entered.settled_before, Paths.label_path}
 use Rattle.arj_law_cause.proofs.kinds.Over.{over_later}
 use Rattle.arj_law_cause.proofs.rows.Spans.{answered_at}
 use Rattle.arj_law_cause.proofs.votes.Asks.{AskChanged, AsksAreChanged, ChangesEach, changed_keep}
 use Rattle.arj_law_cause.proofs.waits.waiting.{Acting.Stands, Waiting.commit_is}
 use Rattle.arj_law_cause.proofs.waits.waiting.Acting as acting
-use Rattle.arj_law_cause.specs.kinds.Tests.{is_old_so}
 
 -- ---- at the coordinator
 
 module _ (hd : Header) (st : Start) (form : HeaderInForm hd) (before : List Line) (event : ℕ) (k : ℕ) (d : Disk) (t : Parts) (M : Moment)
-    (shown : ShowsFrom hd st before event (up k d t M)) (made : AnswersAreMade (confirms_so hd st) (up k d t M)) (from : ℕ) (m : Message)
+    (shown : ShowsFrom hd st before event (up k d t M)) (made : AnswersAreMade (old_so st) (up k d t M)) (from : ℕ) (m : Message)
     (sent_it : seen.In (record { from = from; to = k; message = m }) M.seen.sent) (a : Asked) (y v : ℕ)
     (answer : answers m ≡ Some (a, Reply.Prepared (prepared.Old y v))) (w : Doing) (p : Plan) (left : List ℕ)
     (found : doing_of a.act t.coord ≡ Some w) (now : w.now ≡ Committing (Preparing p left))
@@ -90,7 +93,7 @@ module _ (hd : Header) (st : Start) (form : HeaderInForm hd) (before : List Line
 
   -- ---- the answer
 
-  ans : AnswersTo (confirms_so hd st) ⊥ (up k d t M) from k a (Reply.Prepared (prepared.Old y v))
+  ans : AnswersTo (old_so st) ⊥ (up k d t M) from k a (Reply.Prepared (prepared.Old y v))
   ans = made.sent (record { from = from; to = k; message = m }) a (Reply.Prepared (prepared.Old y v)) sent_it answer
 
   asker : actor (let h = ans.0 in h.path) ≡ a.act
@@ -121,8 +124,8 @@ module _ (hd : Header) (st : Start) (form : HeaderInForm hd) (before : List Line
       ∙ ap (λ n. ask.Prepare (states_for n p)) q.to
 
   so : is_called (let z = ans.3 in z.made.before) (actor (let h = ans.0 in h.path))
-      × says_late st ans.0 (states_for from p) y v (let z = ans.3 in z.made.before)
-  so = let z = ans.3 in subst (λ b. says_of hd st ans.0 b (Reply.Prepared (prepared.Old y v)) z.made.before) its_ask z.made.so.0
+      × says_late st ans.0 (states_for from p) y v (let z = ans.3 in z.made.before) × says_lost ans.0 y (let z = ans.3 in z.made.before)
+  so = let z = ans.3 in subst (λ b. says_old st ans.0 b (Reply.Prepared (prepared.Old y v)) z.made.before) its_ask z.made.so
 
   -- ---- the action
 
@@ -166,10 +169,35 @@ module _ (hd : Header) (st : Start) (form : HeaderInForm hd) (before : List Line
   early_place : IsEarly M.seen.lines → IsEarly (let z = ans.3 in z.made.before)
   early_place early = let z = ans.3 in early_before z.made.before z.made.after (subst IsEarly z.made.are early)
 
+  settled_place : IsSettled M.seen.lines → IsSettled (let z = ans.3 in z.made.before)
+  settled_place settled = let z = ans.3 in settled_before z.made.before z.made.after (subst IsSettled z.made.are settled)
+
+  -- its path was the same
+  path_then : path (acts (let z = ans.3 in z.made.before)) (let s = stands in let b = s.act in b.label)
+      ≡ path (acts M.seen.lines) (let s = stands in let b = s.act in b.label)
+  path_then =
+      let z = ans.3 in let s = stands in
+      label_path (acts z.made.before) (let w = its_sound z.made.before front_right in w.distinct) (let b = s.act in b.label) s.act
+      (paths.found (acts z.made.before) (let w = its_sound z.made.before front_right in w.distinct) s.act there_then)
+      ∙ sym (path_still z.made.before z.made.after (subst (λ ls. AreDistinct (acts ls)) z.made.are (let w = its_sound M.seen.lines right in w.distinct))
+      (let b = s.act in b.uid) (any_in (λ (y : Act). uid_eq y.uid (let b = s.act in b.uid)) s.act (acts z.made.before) there_then
+      (uid_same (let b = s.act in b.uid))))
+      ∙ ap (λ ls. path_by (acts ls) (let b = s.act in b.uid)) (sym z.made.are)
+      ∙ sym (label_path (acts M.seen.lines) (let w = its_sound M.seen.lines right in w.distinct) (let b = s.act in b.label) s.act
+      (paths.found (acts M.seen.lines) (let w = its_sound M.seen.lines right in w.distinct) s.act s.began))
+
+  lost : IsSettled M.seen.lines → has_restarted (let z = ans.3 in z.made.before) y
+      (root_in (path (acts M.seen.lines) (let s = stands in let b = s.act in b.label))) ≡ true
+  lost settled = subst (λ p. has_restarted (let z = ans.3 in z.made.before) y (root_in p) ≡ true) path_then
+      (so.2 (settled_place settled) (let s = stands in s.act) there_then (its_uid ∙ sym asker) open_then)
+
   late : IsEarly M.seen.lines → IsTooLate st (states_for from p) y v (let z = ans.3 in z.made.before)
   late early = so.1 (early_place early) (let s = stands in s.act) there_then (its_uid ∙ sym asker) open_then
 
-  module _ (early : IsEarly M.seen.lines) where
+  module _ (settled : IsSettled M.seen.lines) where
+    early : IsEarly M.seen.lines
+    early = settled.early
+
     abbrev s : IsTooLate st (states_for from p) y v (let z = ans.3 in z.made.before)
     s = late early
 
@@ -216,20 +244,23 @@ module _ (hd : Header) (st : Start) (form : HeaderInForm hd) (before : List Line
 
       answered_so : answered (record h { header = hd; lines = M.seen.lines }) its_place.0
           (let s = stands in let b = s.act in b.uid.node) from
-          (frame.Prepared ∷ []) (λ ls. nat_le v ((let m = h.start.marks.states y in m.version) + writers ls y)) ≡ true
+          (frame.Prepared ∷ []) (λ ls. nat_le v ((let m = h.start.marks.states y in m.version) + writers ls y)
+          && has_restarted ls y (root_in (path (acts M.seen.lines) (let s = stands in let b = s.act in b.label)))) ≡ true
       answered_so = let z = ans.3 in
           answered_at (record h { header = hd; lines = M.seen.lines }) its_place.0 (let s = stands in let b = s.act in b.uid.node) from
-          frame.Prepared (frame.Prepared ∷ []) (λ ls. nat_le v ((let m = h.start.marks.states y in m.version) + writers ls y))
+          frame.Prepared (frame.Prepared ∷ []) (λ ls. nat_le v ((let m = h.start.marks.states y in m.version) + writers ls y)
+          && has_restarted ls y (root_in (path (acts M.seen.lines) (let s = stands in let b = s.act in b.label))))
           z.made.before z.made.after z.made.are its_place.2
           (⊎_elim (λ same. inl (same ∙ home))
           (λ f. ⊎_elim (λ begins. inr (subst (λ j. BeginsWith from j frame.Prepared z.made.after) home begins))
-          (λ never. absurd never) f) z.made.framed) refl counted
+          (λ never. absurd never) f) z.made.framed) refl (λ i. counted i && lost settled i)
 
-      pub old_row : is_old_so (record h { header = hd; lines = M.seen.lines }) (body.Aborted w.label (cause.Old from y v)) ≡ true
+      pub old_row : is_old (record h { header = hd; lines = M.seen.lines }) (name w.label) from y v ≡ true
       unfolding its_place
       old_row = λ i. some i && commits_at (record h { header = hd; lines = M.seen.lines }) (name w.label) (let z = ans.3 in z.made.before)
           (let z = ans.3 in z.made.after) (let z = ans.3 in z.made.are) right (let s = stands in s.act)
           (let s = stands in s.named) under called (λ b c. changes M.seen.lines b.id y
           && answered (record h { header = hd; lines = M.seen.lines }) c b.uid.node from (frame.Prepared ∷ [])
-          (λ ls. nat_le v ((let m = h.start.marks.states y in m.version) + writers ls y)))
+          (λ ls. nat_le v ((let m = h.start.marks.states y in m.version) + writers ls y)
+          && has_restarted ls y (root_in (path (acts M.seen.lines) b.label))))
           (λ j. its_change j && answered_so j) i

@@ -57,9 +57,10 @@ use Rattle.arj_law_serial.proofs.Terms.{AreAlike, AreDistinct, act_of, path, pat
 use Rattle.arj_law_serial.proofs.holding.{Running.Showing, Running.alike_of}
 use Rattle.arj_law_serial.proofs.tables.Holders.{path_fits}
 use Rattle.arj_model.specs.Actions.{tops_in}
-use Rattle.arj_law_cause.specs.kinds.Tests.{is_changed_so, is_old_so}
+use Rattle.arj_law_cause.proofs.rows.Entered.{IsSettled}
+use Rattle.arj_law_cause.specs.kinds.Tests.{is_changed_so}
 use Rattle.arj_model.specs.CauseAnswers.{meets}
-use Rattle.arj_model.specs.CauseCommits.{confirm_meets}
+use Rattle.arj_model.specs.CauseCommits.{confirm_meets, is_old}
 use Rattle.arj_model.specs.CauseSpans.{top_uids}
 use Rattle.arj_model.specs.Last.{Exclusion, excluded}
 use Rattle.arj_law_serial.proofs.Terms.{Placed}
@@ -117,8 +118,8 @@ undecided_so B u k None none is = (λ i. front (is_on B.committed u) (is_on B.ab
 
 -- ---- what a line says
 
--- Where a commit was refused the line has its cause, or that part of it that is shown of stores, by these lines before it, as long as they
--- are early, in a run with this start.
+-- Where a commit was refused the line has its cause, by these lines before it, as long as they are early, and settled where a store refused
+-- it, in a run with this start.
 abbrev pub Fits : Header → Start → List Line → Body → Type 0
 Fits hd st lines (body.Aborted l (cause.Listed y s)) =
     IsEarly lines → (h : Here) → h.header ≡ hd → h.lines ≡ lines → is_listed_before h (name l) y s ≡ true
@@ -126,8 +127,8 @@ Fits hd st lines (body.Aborted l (cause.NoStores y)) =
     IsEarly lines → (h : Here) → h.header ≡ hd → h.lines ≡ lines → leaves_none h (name l) y ≡ true
 Fits hd st lines (body.Aborted l (cause.Conflict u m n)) =
     IsEarly lines → (h : Here) → h.header ≡ hd → h.lines ≡ lines → confirm_meets h (name l) u m n ≡ true
-Fits hd st lines (body.Aborted l (cause.Old n y v)) = IsEarly lines → (h : Here) → h.header ≡ hd → h.start ≡ st → h.lines ≡ lines →
-    is_old_so h (body.Aborted l (cause.Old n y v)) ≡ true
+Fits hd st lines (body.Aborted l (cause.Old n y v)) = IsSettled lines → (h : Here) → h.header ≡ hd → h.start ≡ st → h.lines ≡ lines →
+    is_old h (name l) n y v ≡ true
 Fits hd st lines (body.Aborted l (cause.Changed n d)) = (h : Here) → h.header ≡ hd → h.start ≡ st → h.lines ≡ lines →
     is_changed_so h (body.Aborted l (cause.Changed n d)) ≡ true
 Fits hd st lines b = ⊤

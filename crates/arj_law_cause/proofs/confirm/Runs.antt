@@ -1,5 +1,6 @@
 -- Whole runs: each line that says that naming refused a commit, for a listed store, since no store would be left, or for a row that the
--- top met, has its cause, and so much of it where a store, a server or naming refused one since something is newer.
+-- top met, has its cause, and so much of it where a server or naming refused one since something is newer; and each that says that a store
+-- did fits those before it.
 use Rattle.arj_law_parts.proofs.Words
 use Words.{⊤, ◌≡◌, ◌⊎◌, ◌∙◌, ◌+◌, ◌==◌, ◌++◌, ◌&&◌, ◌||◌, not, ℕ, Bool, true, false, cond, if◌then◌else◌, List, [], ◌∷◌, Option, Some}
 use Words.{None, refl, sym}
@@ -9,13 +10,13 @@ use Words.{answers, Disk, Do, Effect, Say, Send, worked, Parts, Took, handle, is
 use Words.{begin_action}
 use Words.{parent_of, parts_in, restart_outs, tick_outs, heard, frame_kind, is_serial, numbered, Post, Seen, Start, IsFormed, name}
 use Words.{world_by}
-use Words.{world_from}
+use Words.{see, world_from}
 use Words.body
 use Words.cause
 use Words.frame
 use Rattle.arj_journal.specs.ScriptForm.{HeaderInForm}
 use Rattle.arj_law_lock_view.proofs.moments.Answers.{answers_step, first_made, made_closes, made_later, made_opens}
-use Rattle.arj_law_lock_view.specs.moments.Made.{AnswersAreMade}
+use Rattle.arj_law_lock_view.specs.moments.Made.{AnswersAreMade, Saying}
 use Rattle.arj_law_parts.proofs.moves.{Flat.post, Happens.Wide, Happens.wide_kept}
 use Rattle.arj_law_parts.proofs.moves.{Together.with_both}
 use Rattle.arj_law_parts.specs.moves.Keeps.{IsAtStarts}
@@ -27,6 +28,7 @@ use Rattle.arj_law_runs.proofs.follow.Frames.{frames_are_caused}
 use Rattle.arj_law_runs.specs.follow.Frames.{FramesStep, are_so, run_events}
 use Rattle.arj_law_serial.proofs.joint.FitRuns.{moves_fit}
 use Rattle.arj_model.specs.CauseSpans.{Here, behind, here_at}
+use Rattle.arj_model.specs.CauseCommits.{is_old}
 use Rattle.arj_model.specs.Caused.{has_cause}
 use Rattle.arj_model.specs.Follows.{Runs}
 use Rattle.arj_model.specs.Past.{Along, Past, block, next}
@@ -35,7 +37,8 @@ use Rattle.arj_law_cause.proofs.votes.Lines as lines
 use Rattle.arj_law_cause.specs.rows.Early.{IsEarly}
 use Rattle.arj_law_cause.proofs.confirm.{Joined.early_before, Labels.runs_have_few, Plain.Ends, Plain.Heard, Plain.Plain}
 use Rattle.arj_law_cause.proofs.confirm.{Changed.changed_row, Entries.BeganSo, Entries.began_so, Outdated.old_row, Plain.EndsChanged}
-use Rattle.arj_law_cause.proofs.confirm.{Plain.EndsLate, Plain.Rests}
+use Rattle.arj_law_cause.proofs.confirm.{Granting.GrantsAreHad, Granting.first_had, Granting.had_steps, Granting.more_had}
+use Rattle.arj_law_cause.proofs.confirm.{Losing.old_so, Losing.old_tells, Plain.EndsLate, Plain.Rests}
 use Rattle.arj_law_cause.proofs.confirm.{Plain.acts_plain}
 use Rattle.arj_law_cause.proofs.confirm.{Plain.heard_is, Plain.parts_plain, Plain.plain, Reached.Reached}
 use Rattle.arj_law_cause.proofs.confirm.{Reached.reached_kept}
@@ -43,8 +46,8 @@ use Rattle.arj_law_cause.proofs.confirm.{Refused.Fits, Refused.fits_line, Says.c
 use Rattle.arj_law_cause.proofs.kinds.Lines.{more_lines}
 use Rattle.arj_law_cause.proofs.waits.commits.Serving as Serving
 use Rattle.arj_law_cause.proofs.waits.commits.Serving.{AreStill, IsQuiet, goes_so, naming_quiet, quiet_plain, restart_still, tick_still}
-use Rattle.arj_law_cause.specs.kinds.Kinds.{is_bare_abort, is_changed_abort, is_listed_abort, is_met_abort, is_old_abort}
-use Rattle.arj_law_cause.specs.kinds.Tests.{is_changed_so, is_old_so}
+use Rattle.arj_law_cause.specs.kinds.Kinds.{is_bare_abort, is_changed_abort, is_listed_abort, is_met_abort}
+use Rattle.arj_law_cause.specs.kinds.Tests.{is_changed_so}
 use Rattle.arj_law_cause.specs.kinds.Rows.{RowHolds, TestHolds, TestedStep, tested}
 use Rattle.arj_law_parts.proofs.Terms.which
 use Rattle.arj_law_parts.specs.moves.Moments.{no_history}
@@ -126,13 +129,17 @@ module _ (hd : Header) (st : Start) where
   abbrev Knows : List Line → ℕ → Moment → Type 0
   Knows before event M = Shows hd before event M × Wide (BeganSo st) M
 
-  -- and answers say what is so, and each line so far fits
+  -- answers say what is so, and what roots were granted stands in the journal
+  abbrev Had : List Line → ℕ → Moment → Type 0
+  Had before event M = (InEvent [] hd before event M × (Knows before event M × AnswersAreMade (confirms_so hd st) M)) × GrantsAreHad st M
+
+  -- so do those of stores that refuse states as too late, and each line so far fits
   abbrev Inner : List Line → ℕ → Moment → Type 0
-  Inner before event M = (InEvent [] hd before event M × (Knows before event M × AnswersAreMade (confirms_so hd st) M)) × LinesFit M
+  Inner before event M = (Had before event M × AnswersAreMade (old_so st) M) × LinesFit M
 
   -- between events
   abbrev Between : Moment → Type 0
-  Between M = Given M × LinesFit M
+  Between M = ((Given M × GrantsAreHad st M) × AnswersAreMade (old_so st) M) × LinesFit M
 
   reached_wide : KeepsWith hd (IsAtStarts hd (Reached hd)) (Wide (Reached hd))
   reached_wide = wide_kept hd (IsAtStarts hd (Reached hd)) (Reached hd) (reached_kept hd)
@@ -151,10 +158,10 @@ module _ (hd : Header) (st : Start) where
 
   module _ (form : HeaderInForm hd) where
     heard_turn : (before : List Line) (event k : ℕ) (d : Disk) (t : Parts) (from : ℕ) (m : Message) (M : Moment) →
-        Knows before event (up k d t M) → AnswersAreMade (confirms_so hd st) (up k d t M) →
+        Knows before event (up k d t M) → AnswersAreMade (confirms_so hd st) (up k d t M) → AnswersAreMade (old_so st) (up k d t M) →
         In (record { from = from; to = k; message = m }) M.seen.sent → (a : Asked) (r : Reply) → answers m ≡ Some (a, r) →
         Turn M.seen.lines (heard from a r d.intents t.coord).outs
-    heard_turn before event k d t from m M h made there a r is =
+    heard_turn before event k d t from m M h made olds there a r is =
         by (heard from a r d.intents t.coord).outs (heard_is from a r d.intents t.coord)
       where
         by : (outs : List Effect) → Heard from a r t.coord outs → Turn M.seen.lines outs
@@ -171,11 +178,11 @@ module _ (hd : Header) (st : Start) where
           body.Aborted w.label (cause.Old from y v),
           rest,
           are,
-          (λ early g header starts at. subst (λ z. is_old_so z (body.Aborted w.label (cause.Old from y v)) ≡ true)
+          (λ settled g header starts at. subst (λ z. is_old z (name w.label) from y v ≡ true)
               (λ i. record g { header = sym header i; lines = sym at i })
-              (old_row hd st form before event k d t M (h.0, h.1.2) made from m there a y v (is ∙ ap (λ z. Some (a, z)) reply) w p left
+              (old_row hd st form before event k d t M (h.0, h.1.2) olds from m there a y v (is ∙ ap (λ z. Some (a, z)) reply) w p left
               found now
-              (subst (λ z. Words.waits_for_commit from a z (Words.Preparing p left) ≡ true) reply waits) early g starts)),
+              (subst (λ z. Words.waits_for_commit from a z (Words.Preparing p left) ≡ true) reply waits) settled g starts)),
           all,
         )
         by outs (EndsChanged w machine c n rest found now waits changes are all) = inr (
@@ -189,14 +196,14 @@ module _ (hd : Header) (st : Start) where
         )
 
     message_turn : (before : List Line) (event k : ℕ) (d : Disk) (t v : Parts) (from : ℕ) (m : Message) (outs : List Effect) (M : Moment) →
-        Knows before event (up k d t M) → AnswersAreMade (confirms_so hd st) (up k d t M) →
+        Knows before event (up k d t M) → AnswersAreMade (confirms_so hd st) (up k d t M) → AnswersAreMade (old_so st) (up k d t M) →
         In (record { from = from; to = k; message = m }) M.seen.sent → handle k d t from m ≡ Took v outs → Turn M.seen.lines outs
-    message_turn before event k d t v from m outs M h made there is =
+    message_turn before event k d t v from m outs M h made olds there is =
         subst (Serving.GoesSo (IsQuiet plain) (quiet_plain plain parts_plain) (Turn M.seen.lines)
         (λ es all. inl all) k d t (λ n at. naming_quiet plain parts_plain d.names n) from) is
         (goes_so (IsQuiet plain) (quiet_plain plain parts_plain) (Turn M.seen.lines) (λ es all. inl all) k d t
         (λ n at. naming_quiet plain parts_plain d.names n) from m
-        (λ a r says. heard_turn before event k d t from m M h made there a r says))
+        (λ a r says. heard_turn before event k d t from m M h made olds there a r says))
 
     module _ (before : List Line) (event : ℕ) (early : (j : ℕ) → (event == up_of j before) ≡ false) where
       abbrev Known_now : Moment → Type 0
@@ -214,70 +221,103 @@ module _ (hd : Header) (st : Start) where
           (λ k d t v from m h a r front M g there other meant asking new is.
           tells hd st form before event early k d t v from m h a r front M (g.0, g.1.2) there other meant asking new is))
 
+      had_known : KeepsSteps hd (Had before event)
+      had_known = had_steps st hd Known_now known_steps (λ k d t M h. h.1.0.0.1) (λ k d t M h. h.1.1)
+
+      abbrev Known_all : Moment → Type 0
+      Known_all M = Had before event M × AnswersAreMade (old_so st) M
+
+      all_steps : KeepsSteps hd Known_all
+      all_steps = answers_step hd (old_so st) (Had before event) had_known (λ M h. h.0.1.0.0.0.0.0)
+          (old_tells hd st form (Had before event) (λ M h. (h.0.1.0.0.1, h.0.1.0.1.2, h.1)))
+
       inner_steps : KeepsSteps hd (Inner before event)
-      inner_steps = let g = known_steps in record {
+      inner_steps = let g = all_steps in record {
         quiet = λ bs M all h. (g.quiet bs M all h.0, mute bs M (plain_lines bs all) h.1);
         junk = λ n M fit h. (g.junk n M fit h.0, mute (body.Sent (M.past.frames + 1) 0 n frame.Junk ∷ []) M refl h.1);
         stop = λ k d live M h. (g.stop k d live M h.0, mute (body.Halted k ∷ []) M refl h.1);
         message = λ k d t v from m outs M h there meant may is.
-            with_both Known_now LinesFit k outs (UpWith Known_now k v) (UpWith LinesFit k v) d M
+            with_both Known_all LinesFit k outs (UpWith Known_all k v) (UpWith LinesFit k v) d M
             (g.message k d t v from m outs M h.0 there meant may is)
-            (turn_walk k v outs d M (message_turn before event k d t v from m outs M h.0.1.0 h.0.1.1 there is) h.1);
+            (turn_walk k v outs d M (message_turn before event k d t v from m outs M h.0.0.0.1.0 h.0.0.0.1.1 h.0.1 there is) h.1);
         act = λ k d t i M is brings first asks free h. let did = does i d.intents t.coord in
-            with_both Known_now LinesFit k did.outs (UpWith Known_now k (with_coord t did.part))
+            with_both Known_all LinesFit k did.outs (UpWith Known_all k (with_coord t did.part))
             (UpWith LinesFit k (with_coord t did.part)) d
             (asks_now i t.coord M) (g.act k d t i M is brings first asks free h.0)
             (rest_walk k (with_coord t did.part) did.outs d (asks_now i t.coord M) (acts_plain i d.intents t.coord is) h.1);
         begin = λ k d t l how parent M brings first new gives none h.
             let did = begin_action l how parent (parent_of parent t.coord) t.coord in
             let N = given l (record { node = k; serial = is_serial how }) M in
-            with_both Known_now LinesFit k did.outs (UpWith Known_now k (with_coord t did.part))
+            with_both Known_all LinesFit k did.outs (UpWith Known_all k (with_coord t did.part))
             (UpWith LinesFit k (with_coord t did.part)) d
             N (g.begin k d t l how parent M brings first new gives none h.0)
             (rest_walk k (with_coord t did.part) did.outs d N (refl, tt) h.1);
         tick = λ k d t M h. let r = again_all t.coord.doings t.coord in
             let outs = tick_outs (record { number = k; disk = d; live = Some t }) t in
-            with_both Known_now LinesFit k outs (UpWith Known_now k (with_coord t r.part)) (UpWith LinesFit k (with_coord t r.part)) d M
+            with_both Known_all LinesFit k outs (UpWith Known_all k (with_coord t r.part)) (UpWith LinesFit k (with_coord t r.part)) d M
             (g.tick k d t M h.0)
             (rest_walk k (with_coord t r.part) outs d M (tick_still (IsQuiet plain) (quiet_plain plain parts_plain) k d t) h.1);
         restart = λ k d M now first h. let outs = restart_outs hd k (d.inc + 1) d in let v = parts_in k (d.inc + 1) d in
-            with_both Known_now LinesFit k outs (UpWith Known_now k v) (UpWith LinesFit k v) d M (g.restart k d M now first h.0)
+            with_both Known_all LinesFit k outs (UpWith Known_all k v) (UpWith LinesFit k v) d M (g.restart k d M now first h.0)
             (rest_walk k v outs d M (restart_still (IsQuiet plain) (quiet_plain plain parts_plain) hd k (d.inc + 1) d) h.1);
       }
 
     its_beside : Beside [] hd Between Inner
     its_beside = let k = reached_wide in let b = began_wide in record {
       inner = λ before event early. inner_steps before event early;
-      knows = λ before event M h. h.0.0;
-      opens = λ e M first number h. (
-        (k.opens e M first number h.0.0, (b.opens e M first number h.0.1.0, made_opens (confirms_so hd st) e M first number h.0.1.1)),
-        h.1,
-      );
-      enters = λ before event M number first lines i h. ((i, (((i.0.0, h.0.0), h.0.1.0), h.0.1.1)), h.1);
-      leaves = λ before event bodies M number lines h. (
+      knows = λ before event M h. h.0.0.0.0;
+      opens = λ e M first number h. let g = h.0.0.0 in (
         (
-          k.closes bodies M number lines h.0.1.0.0.1,
-          (b.closes bodies M number lines h.0.1.0.1, made_closes (confirms_so hd st) bodies M number lines h.0.1.1),
+          (
+            (k.opens e M first number g.0, (b.opens e M first number g.1.0, made_opens (confirms_so hd st) e M first number g.1.1)),
+            h.0.0.1,
+          ),
+          made_opens (old_so st) e M first number h.0.1,
         ),
         h.1,
       );
-      labels = λ M h. (
+      enters = λ before event M number first lines i h. let g = h.0.0.0 in
+          ((((i, (((i.0.0, g.0), g.1.0), g.1.1)), h.0.0.1), h.0.1), h.1);
+      leaves = λ before event bodies M number lines h. let g = h.0.0.0.1 in (
         (
-          (let s = k.steps in s.quiet (body.Limit which.Labels ∷ []) M refl h.0.0),
           (
-            (let s = b.steps in s.quiet (body.Limit which.Labels ∷ []) M refl h.0.1.0),
-            made_later (confirms_so hd st) M (said (body.Limit which.Labels ∷ []) M) (record {
-              more = numbered M.past.number (body.Limit which.Labels ∷ []);
-              lines = refl;
-              askings = refl;
-              sent = λ p i. i;
-              full = λ f. f;
-            }) (λ j. refl) (λ p i. i) h.0.1.1,
+            (
+              k.closes bodies M number lines g.0.0.1,
+              (b.closes bodies M number lines g.0.1, made_closes (confirms_so hd st) bodies M number lines g.1),
+            ),
+            h.0.0.1,
           ),
+          made_closes (old_so st) bodies M number lines h.0.1,
+        ),
+        h.1,
+      );
+      labels = λ M h. let g = h.0.0.0 in (
+        (
+          (
+            (
+              (let s = k.steps in s.quiet (body.Limit which.Labels ∷ []) M refl g.0),
+              (
+                (let s = b.steps in s.quiet (body.Limit which.Labels ∷ []) M refl g.1.0),
+                limit_made (confirms_so hd st) M g.1.1,
+              ),
+            ),
+            λ j n t there live. more_had st M.seen.lines (numbered M.past.number (body.Limit which.Labels ∷ [])) t.coord
+                (h.0.0.1 j n t there live),
+          ),
+          limit_made (old_so st) M h.0.1,
         ),
         mute (body.Limit which.Labels ∷ []) M refl h.1,
       );
     }
+      where
+        limit_made : (S : Saying) (M : Moment) → AnswersAreMade S M → AnswersAreMade S (said (body.Limit which.Labels ∷ []) M)
+        limit_made S M h = made_later S M (said (body.Limit which.Labels ∷ []) M) (record {
+          more = numbered M.past.number (body.Limit which.Labels ∷ []);
+          lines = refl;
+          askings = refl;
+          sent = λ p i. i;
+          full = λ f. f;
+        }) (λ j. refl) (λ p i. i) h
 
     -- ---- runs
 
@@ -287,8 +327,15 @@ module _ (hd : Header) (st : Start) where
         let z = moves_stand [] hd Between Inner its_beside (none_fits hd) r.moves (no_history r.start) (world_from hd r.start)
         (first_so [] hd Between Inner its_beside r.start r.formed (
           (
-            ([], (λ p i. i), k.first r.start r.formed),
-            (([], (λ p i. i), starts), first_made hd (confirms_so hd st) r.start r.formed),
+            (
+              (
+                ([], (λ p i. i), k.first r.start r.formed),
+                (([], (λ p i. i), starts), first_made hd (confirms_so hd st) r.start r.formed),
+              ),
+              subst (λ s. GrantsAreHad s (record { past = no_history r.start; seen = see [] (world_from hd r.start) })) starts
+                  (first_had hd r.start),
+            ),
+            first_made hd (old_so st) r.start r.formed,
           ),
           tt,
         )) in
@@ -308,11 +355,10 @@ runs_early hd r form = record {
 abbrev IsSo : Header → Start → List Line → Body → Type 0
 IsSo hd st before b = Fits hd st before b × IsEarly before
 
-module _ (hd : Header) (st : Start) (test of : Here → Body → Bool) (to : (h : Here) (b : Body) → h.header ≡ hd → h.start ≡ st →
-    of h b ≡ true →
-    IsSo hd st h.lines b → test h b ≡ true)
+module _ (hd : Header) (st : Start) (So : List Line → Body → Type 0) (test of : Here → Body → Bool)
+    (to : (h : Here) (b : Body) → h.header ≡ hd → h.start ≡ st → of h b ≡ true → So h.lines b → test h b ≡ true)
     (lines : List Line) (each : (before : List Line) (line : Line) (behind : List Line) → lines ≡ before ++ line ∷ behind →
-    IsSo hd st before line.body) where
+    So before line.body) where
   lines_so : (h : Here) (bs : List Body) (more : List Line) → h.header ≡ hd → h.start ≡ st →
       lines ≡ h.lines ++ (numbered h.number bs ++ more) → are_so (tested test of) h bs ≡ true
   lines_so h [] more header starts is = refl
@@ -337,7 +383,7 @@ module _ (hd : Header) (st : Start) (test of : Here → Body → Bool) (to : (h 
         along_so P es (next p e a.0) end ending starts is a.2,
       )
 
-  rows_so : (P : Past → Event → List Body → Type 0) (es : List Event) → Runs P st es lines → Runs (TestedStep test of hd) st es lines
+  pub rows_so : (P : Past → Event → List Body → Type 0) (es : List Event) → Runs P st es lines → Runs (TestedStep test of hd) st es lines
   rows_so P es r = (r.0, r.1, along_so P es _ r.0 r.1 refl r.3 r.2, r.3, r.4)
 
 each_line : (hd : Header) (r : Run hd) → IsInForm hd r → (before : List Line) (line : Line) (behind : List Line) →
@@ -362,35 +408,25 @@ met_cause : (hd : Header) (st : Start) (h : Here) (b : Body) → h.header ≡ hd
 met_cause hd st h (body.Aborted l (cause.Conflict u m n)) header starts its so = so.0 so.1 h header refl
 met_cause hd st h b header starts its so = absurd (cc its)
 
-old_cause : (hd : Header) (st : Start) (h : Here) (b : Body) → h.header ≡ hd → h.start ≡ st → is_old_abort b ≡ true →
-    IsSo hd st h.lines b → is_old_so h b ≡ true
-old_cause hd st h (body.Aborted l (cause.Old n x v)) header starts its so = so.0 so.1 h header starts refl
-old_cause hd st h b header starts its so = absurd (cc its)
-
 changed_cause : (hd : Header) (st : Start) (h : Here) (b : Body) → h.header ≡ hd → h.start ≡ st → is_changed_abort b ≡ true →
     IsSo hd st h.lines b → is_changed_so h b ≡ true
 changed_cause hd st h (body.Aborted l (cause.Changed n d)) header starts its so = so.0 h header starts refl
 changed_cause hd st h b header starts its so = absurd (cc its)
 
 pub listed_row : RowHolds is_listed_abort
-listed_row hd r form = rows_so hd r.start has_cause (λ h. is_listed_abort) (listed_cause hd r.start) (journal_by hd r) (each_line hd r form)
+listed_row hd r form = rows_so hd r.start (IsSo hd r.start) has_cause (λ h. is_listed_abort) (listed_cause hd r.start) (journal_by hd r) (each_line hd r form)
     (FramesStep hd) (run_events hd r) (frames_are_caused hd r form)
 
 pub bare_row : RowHolds is_bare_abort
-bare_row hd r form = rows_so hd r.start has_cause (λ h. is_bare_abort) (bare_cause hd r.start) (journal_by hd r) (each_line hd r form)
+bare_row hd r form = rows_so hd r.start (IsSo hd r.start) has_cause (λ h. is_bare_abort) (bare_cause hd r.start) (journal_by hd r) (each_line hd r form)
     (FramesStep hd) (run_events hd r) (frames_are_caused hd r form)
 
 pub met_row : RowHolds is_met_abort
-met_row hd r form = rows_so hd r.start has_cause (λ h. is_met_abort) (met_cause hd r.start) (journal_by hd r) (each_line hd r form)
-    (FramesStep hd) (run_events hd r) (frames_are_caused hd r form)
-
--- each that a store refused as too late has this much of its cause
-pub old_test : TestHolds is_old_so is_old_abort
-old_test hd r form = rows_so hd r.start is_old_so (λ h. is_old_abort) (old_cause hd r.start) (journal_by hd r) (each_line hd r form)
+met_row hd r form = rows_so hd r.start (IsSo hd r.start) has_cause (λ h. is_met_abort) (met_cause hd r.start) (journal_by hd r) (each_line hd r form)
     (FramesStep hd) (run_events hd r) (frames_are_caused hd r form)
 
 -- each that a server, or naming, refused since something changed has this much of its cause
 pub changed_test : TestHolds is_changed_so is_changed_abort
-changed_test hd r form = rows_so hd r.start is_changed_so (λ h. is_changed_abort) (changed_cause hd r.start) (journal_by hd r)
+changed_test hd r form = rows_so hd r.start (IsSo hd r.start) is_changed_so (λ h. is_changed_abort) (changed_cause hd r.start) (journal_by hd r)
     (each_line hd r form)
     (FramesStep hd) (run_events hd r) (frames_are_caused hd r form)

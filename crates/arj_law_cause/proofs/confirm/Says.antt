@@ -1,4 +1,4 @@
--- What naming's answer to a Confirm says of the journal where it is made, and that it says so.
+-- What naming's answers to a Confirm and to a Bind say of the journal where they are made, and that they say so.
 use Rattle.arj_law_parts.proofs.Words
 use Words.{⊤, ◌≡◌, ◌∙◌, ◌==◌, ◌++◌, ℕ, Bool, true, false, if◌then◌else◌, List, [], ◌∷◌, Option, Some, None, refl, sym, ap, subst, is_some}
 use Words.{and_parts, inl, inr, list_all, option_map, eqb-true, uid_number, numbered, Served, Ask, ConfirmedReply, Head, Header, Line}
@@ -7,7 +7,7 @@ use Words.{is_listed, is_on, top_of, Grants, Marks, confirm, first_of_each, has_
 use Words.{Do, Say, Send, entry_of, listed_entry, is_over, same_nodes, Handled, Parts, Took, Void, handle, handle_ask, is_meant, serve, served}
 use Words.{sends_answer}
 use Words.{if_naming, with_naming, Naming, Named, Node, Post, Seen, at_number, AllByRecursion, In}
-use Words.{◌⊎◌, ◌<◌, ⊎_elim, ObjectState, IsFormed, entry_state, held_at, stores_after}
+use Words.{◌⊎◌, ◌≤◌, ◌<◌, ⊎_elim, ObjectState, IsFormed, entry_state, held_at, stores_after}
 use Words.{⊤, entry, eq-eqb, last_uid, Row, Path, Mode, top_path, is_wanted, wanted, wants_lock}
 use Words.{holder_of, state_entry, refused_exclude, first_conflict}
 use Words.{Start, PreparedReply, Prep, Prepare, Ready, Already, InDoubt, Old, Look, is_prepared, prepare_answer, prepare_by}
@@ -45,10 +45,18 @@ use Rattle.arj_law_cause.proofs.confirm.{Replies.listed_found, Replies.refused}
 use Rattle.arj_law_cause.proofs.rows.Telling.{outs_in, same_reply, silent_front, table_then}
 use Rattle.arj_law_cause.proofs.rows.Meeting.{meets_by}
 use Rattle.arj_law_cause.specs.rows.Tables.{Tables}
+use Rattle.arj_law_cause.proofs.bindings.Said.{KnowsBindings, bindings_keep}
+use Rattle.arj_law_cause.proofs.confirm.Began.{since_all}
+use Rattle.arj_law_cause.proofs.confirm.Grants.{grants_say, grants_so}
+use Rattle.arj_law_cause.proofs.rows.{Differing.fronts, Inside.handle_starts}
+use Rattle.arj_law_serial.proofs.holding.Sorts.{is_no_start}
+use Rattle.arj_law_parts.proofs.moves.Happens.{keeps_asked}
+use Rattle.arj_law_runs.proofs.follow.Uids.{KnowsNext, next_keep}
+use Rattle.arj_model.specs.Refusals.{incarnation}
+use Rattle.arj_promise.specs.Starts.{next_inc}
 use Rattle.arj_law_cause.proofs.confirm.{Began.acts_new, Conflicts.Hinders, Conflicts.IsHindered, Conflicts.Meets, Conflicts.changed_by}
 use Rattle.arj_law_cause.proofs.confirm.{Conflicts.conflicts, Entries.decided_more, Entries.entry_below, Entries.entry_writer}
 use Rattle.arj_law_cause.proofs.confirm.Changes.{changed_says, says_changed}
-use Rattle.arj_law_cause.proofs.confirm.Olds.{IsTooLate, says_late, too_late}
 use Rattle.arj_law_cause.proofs.confirm.{Entries.next_not_old, Entries.starts_keep, Labels.written}
 use Rattle.arj_law_runs.proofs.journal.{Books.sane_lines, Books.sane_new, Models.act_there, Models.its_acts}
 use Rattle.arj_law_runs.specs.journal.Book.{book, is_decided, new_book}
@@ -91,8 +99,7 @@ refuses hd h excluded included r before = ⊤
 abbrev pub says_of : Header → Start → Head → Ask → Reply → List Line → Type 0
 says_of hd st h (ask.Confirm grants excluded included) (Reply.Confirmed r) before =
     is_called before (actor h.path) × refuses hd h excluded included r before
-says_of hd st h (ask.Prepare states) (Reply.Prepared (prepared.Old y v)) before =
-    is_called before (actor h.path) × says_late st h states y v before
+says_of hd st h (ask.Bind x include avoid) r before = grants_so st h x r before
 says_of hd st h a r before = ⊤
 
 -- so it is of an answer, in a run with this start, and so much where it says that something changed
@@ -449,75 +456,6 @@ module _ (hd : Header) (st : Start) (form : HeaderInForm hd) (k : ℕ) (d : Disk
       with_it None named e = let no_way : Void [] ≡ Took v (front ++ Send from (response (asked_by h) r) ∷ []) = e in absurd (cc no_way)
       with_it (Some n) named e = by_reply n named (confirm h.path grants excluded included d.names n).reply refl e
 
--- ---- what a store's answer says
-
-module _ (hd : Header) (st : Start) (form : HeaderInForm hd) (k : ℕ) (d : Disk) (t v : Parts) (from : ℕ) (m : Message) (h : Head)
-    (states : List ObjectState) (r : Reply) (front : List Effect) (M : Moment) (known : Wide (Reached hd) (up k d t M))
-    (starts : (let N = M.seen in N.start) ≡ st) (there : seen.In (record { from = from; to = k; message = m }) M.seen.sent)
-    (asking : asks m ≡ Some (h, ask.Prepare states)) where
-  abbrev stored : Seen
-  stored = let N = up k d t M in seen.with_sent known.0 N.seen
-
-  its_place : (let N = up k d t M in N.seen.nodes k) ≡ Some (record { number = k; disk = d; live = Some t })
-  its_place = λ i. if same_number k i then Some (record { number = k; disk = d; live = Some t }) else M.seen.nodes k
-
-  its_post : seen.In (record { from = from; to = k; message = m }) known.0
-  its_post = known.1 (record { from = from; to = k; message = m }) there
-
-  prepare_called : is_called M.seen.lines (actor h.path)
-  prepare_called = (reached_has hd BasedCalled (called_keep hd) (let N = up k d t M in seen.with_sent known.0 N.seen) known.2).1
-      (record { from = from; to = k; message = m }) h (ask.Prepare states) its_post asking
-
-  prepare_says : serve k d t from h (ask.Prepare states) ≡ Took v (front ++ Send from (response (asked_by h) r) ∷ []) →
-      says_of hd st h (ask.Prepare states) r (lines_behind M.past.number front M.seen.lines)
-  prepare_says e = by (is_prepared (actor h.path) d.store) (prepare_answer (actor h.path) states d.store) refl e
-    where
-      plain_so : (q : PreparedReply) → r ≡ Reply.Prepared q → ((y n : ℕ) → q ≡ prepared.Old y n → ⊥) →
-          says_of hd st h (ask.Prepare states) r (lines_behind M.past.number front M.seen.lines)
-      plain_so prepared.Yes is off = subst (λ z. says_of hd st h (ask.Prepare states) z (lines_behind M.past.number front M.seen.lines))
-          (sym is) tt
-      plain_so (prepared.InDoubt y u) is off =
-          subst (λ z. says_of hd st h (ask.Prepare states) z (lines_behind M.past.number front M.seen.lines)) (sym is) tt
-      plain_so (prepared.Old y n) is off = absurd (off y n refl)
-
-      by : (b : Bool) (a : Prep) → prepare_answer (actor h.path) states d.store ≡ a →
-          (if b then sends_answer from h t [] (Some (Reply.Prepared prepared.Yes)) else prepare_by k states from h t a)
-          ≡ Took v (front ++ Send from (response (asked_by h) r) ∷ []) →
-          says_of hd st h (ask.Prepare states) r (lines_behind M.past.number front M.seen.lines)
-      by true a is f =
-          plain_so prepared.Yes (same_reply from h r (Reply.Prepared prepared.Yes) front [] (sym (ap outs_in f))) (λ y n z. cc z)
-      by false Ready is f = plain_so prepared.Yes (same_reply from h r (Reply.Prepared prepared.Yes) front
-          (Do Look ∷ Do (Prepare role.Store (actor h.path) states) ∷ Say (body.Prepared k (actor h.path) role.Store) ∷ [])
-          (sym (ap outs_in f))) (λ y n z. cc z)
-      by false (Already u) is f = let no_way : Void (Do Look ∷ []) ≡ Took v (front ++ Send from (response (asked_by h) r) ∷ []) = f in
-          absurd (cc no_way)
-      by false (InDoubt u w) is f = plain_so (prepared.InDoubt (let z = u in z.num) w) (same_reply from h r
-          (Reply.Prepared (prepared.InDoubt (let z = u in z.num) w)) front (Do Look ∷ []) (sym (ap outs_in f))) (λ y n z. cc z)
-      by false (Old u n) is f = subst (λ z. says_of hd st h (ask.Prepare states) z (lines_behind M.past.number front M.seen.lines))
-          (sym (same_reply from h r (Reply.Prepared (prepared.Old (let z = u in z.num) n)) front (Do Look ∷ []) (sym (ap outs_in f))))
-          (subst (λ ls. is_called ls (actor h.path) × says_late st h states (let z = u in z.num) n ls) (sym (behind_look f)) (
-            prepare_called,
-            λ early a began its opened. subst (λ s. IsTooLate s states (let z = u in z.num) n M.seen.lines) starts
-                (too_late hd form (let N = up k d t M in seen.with_sent known.0 N.seen) known.2 k d t its_place from m its_post h states
-                asking u n
-                is early a began its opened),
-          ))
-        where
-          behind_look : Took t (Do Look ∷ Send from (response (asked_by h) (Reply.Prepared (prepared.Old (let z = u in z.num) n))) ∷ [])
-              ≡ Took v (front ++ Send from (response (asked_by h) r) ∷ []) →
-              lines_behind M.past.number front M.seen.lines ≡ M.seen.lines
-          behind_look f = two front (ap outs_in f)
-            where
-              two : (es : List Effect) →
-                  Do Look ∷ Send from (response (asked_by h) (Reply.Prepared (prepared.Old (let z = u in z.num) n))) ∷ []
-                  ≡ es ++ Send from (response (asked_by h) r) ∷ [] → lines_behind M.past.number es M.seen.lines ≡ M.seen.lines
-              two [] g = absurd (cc g)
-              two (Do w ∷ []) g = refl
-              two (Say b ∷ []) g = absurd (cc g)
-              two (Send to z ∷ []) g = refl
-              two (a ∷ b ∷ []) g = absurd (cc (ap tail_of (ap tail_of g)))
-              two (a ∷ b ∷ c ∷ es) g = absurd (cc (ap tail_of (ap tail_of g)))
-
 -- whose tables show locks in an event, and whose moments were reached
 abbrev pub Shows : Header → List Line → ℕ → Moment → Type 0
 Shows hd before event M = Tables hd before event M × Wide (Reached hd) M
@@ -525,6 +463,30 @@ Shows hd before event M = Tables hd before event M × Wide (Reached hd) M
 -- in a run with this start
 abbrev pub ShowsFrom : Header → Start → List Line → ℕ → Moment → Type 0
 ShowsFrom hd st before event M = Shows hd before event M × ((let N = M.seen in N.start) ≡ st)
+
+-- what is known of bindings, where it was reached
+bindings_there : (hd : Header) (k : ℕ) (d : Disk) (t : Parts) (M : Moment) → Wide (Reached hd) (up k d t M) → Wide KnowsBindings (up k d t M)
+bindings_there hd k d t M known = (
+  known.0,
+  known.1,
+  reached_has hd KnowsBindings (keeps_asked hd KnowsBindings (bindings_keep hd)) (let N = up k d t M in seen.with_sent known.0 N.seen) known.2,
+)
+
+-- a node that is up is in no incarnation before that in which actions of the run first begin
+since_then : (hd : Header) (st : Start) (k : ℕ) (d : Disk) (t : Parts) (M : Moment) → Wide (Reached hd) (up k d t M) → M.seen.start ≡ st →
+    next_inc st k ≤ incarnation M.seen.start M.seen.lines k
+since_then hd st k d t M known starts = subst (λ i. next_inc st k ≤ i) (sym level) (subst (λ s. next_inc s k ≤ d.inc) starts
+    (since_all hd Z known.2 k (record { number = k; disk = d; live = Some t }) here))
+  where
+    Z : Seen
+    Z = let N = up k d t M in seen.with_sent known.0 N.seen
+
+    here : (let N = up k d t M in N.seen.nodes k) ≡ Some (record { number = k; disk = d; live = Some t })
+    here = λ i. if same_number k i then Some (record { number = k; disk = d; live = Some t }) else M.seen.nodes k
+
+    level : incarnation M.seen.start M.seen.lines k ≡ d.inc
+    level = let n : KnowsNext Z = reached_has hd KnowsNext (keeps_asked hd KnowsNext (next_keep hd)) Z known.2 in
+        let q = n.1 k (record { number = k; disk = d; live = Some t }) here in (q.1 t refl).0
 
 module _ (hd : Header) (st : Start) (form : HeaderInForm hd) (before : List Line) (event : ℕ)
     (early : (j : ℕ) → (event == up_of j before) ≡ false) where
@@ -539,15 +501,21 @@ module _ (hd : Header) (st : Start) (form : HeaderInForm hd) (before : List Line
       confirm_says hd st form k d t v from m h grants gone more r front M known.0.1 there asking
       (table_then hd before event early k d t v from m front (response (asked_by h) r) M s.0 s.1 s.2 known.0.0.1 other there meant is
       (silent_front k d t v from h (ask.Confirm grants gone more) r front served_so)).0 served_so
-  commits_say k d t v from m h (ask.Bind x include avoid) r front M known there other meant asking is = tt
+  commits_say k d t v from m h (ask.Bind x include avoid) r front M known there other meant asking is =
+      let s = known.0.0.0.1 in
+      let served_so = sym (ap (handle_ask k d t from m) asking) ∙ is in
+      grants_say st k d t v from m h r front M (bindings_there hd k d t M known.0.1) there known.1
+      (fronts (is_no_start 1) front (Send from (response (asked_by h) r))
+      (handle_starts k d t v from m (front ++ Send from (response (asked_by h) r) ∷ []) is 1))
+      (table_then hd before event early k d t v from m front (response (asked_by h) r) M s.0 s.1 s.2 known.0.0.1 other there meant is
+      (silent_front k d t v from h (ask.Bind x include avoid) r front served_so)).0
+      (since_then hd st k d t M known.0.1 known.1) x include avoid served_so
   commits_say k d t v from m h (ask.Load x) r front M known there other meant asking is = tt
   commits_say k d t v from m h (ask.Activate b state) r front M known there other meant asking is = tt
   commits_say k d t v from m h (ask.Record x b i g) r front M known there other meant asking is = tt
   commits_say k d t v from m h (ask.Invoke x b i ends op) r front M known there other meant asking is = tt
   commits_say k d t v from m h (ask.Vote i ties ends) r front M known there other meant asking is = tt
-  commits_say k d t v from m h (ask.Prepare states) r front M known there other meant asking is =
-      prepare_says hd st form k d t v from m h states r front M known.0.1 known.1 there asking
-      (sym (ap (handle_ask k d t from m) asking) ∙ is)
+  commits_say k d t v from m h (ask.Prepare states) r front M known there other meant asking is = tt
 
   pub tells : Tells (ShowsFrom hd st before event) (confirms_so hd st)
   tells k d t v from m h a r front M known there other meant asking new is = (

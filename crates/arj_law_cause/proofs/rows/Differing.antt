@@ -483,7 +483,7 @@ module _ (k : ℕ) (d : Disk) (t v : Parts) (from : ℕ) (m : Message) (h : Head
       with_it (Some o) at e = named o at e
 
   -- naming's incarnation stays where no line says that a node starts
-  behind_inc : (e : ℕ) (es : List Effect) (ls : List Line) → All (is_no_start 1) es →
+  pub behind_inc : (e : ℕ) (es : List Effect) (ls : List Line) → All (is_no_start 1) es →
       incarnation M.seen.start (lines_behind e es ls) 1 ≡ incarnation M.seen.start ls 1
   behind_inc e [] ls calm = refl
   behind_inc e (Say b ∷ es) ls calm =
@@ -563,7 +563,7 @@ module _ (k : ℕ) (d : Disk) (t v : Parts) (from : ℕ) (m : Message) (h : Head
 -- ---- each answer was made so
 
 -- what all lines of more effects are, all of these are
-fronts : (p : Body → Bool) (es : List Effect) (e : Effect) → All p (es ++ e ∷ []) → All p es
+pub fronts : (p : Body → Bool) (es : List Effect) (e : Effect) → All p (es ++ e ∷ []) → All p es
 fronts p [] e all = refl
 fronts p (Say b ∷ es) e all = let q = and_parts (p b) (list_all (says p) (es ++ e ∷ [])) all in λ i. q.0 i && fronts p es e q.1 i
 fronts p (Send to m ∷ es) e all = fronts p es e (and_parts true (list_all (says p) (es ++ e ∷ [])) all).1

@@ -248,7 +248,7 @@ module _ (st : Start) where
 -- ---- roots
 
 -- who stands on a path that was begun was begun, and has its root
-above_root : (begun : List Action) → AreBegun begun → (a : Action) → In a begun → (v : Uid) → is_on (uids_of a.path) v ≡ true →
+pub above_root : (begun : List Action) → AreBegun begun → (a : Action) → In a begun → (v : Uid) → is_on (uids_of a.path) v ≡ true →
     (d : Action) × In d begun × (act_of d ≡ v) × (first_uid (uids_of d.path) ≡ first_uid (uids_of a.path))
 above_root [] all a i v on = absurd i
 above_root (c ∷ begun) all a (inr i) v on = let r = above_root begun all.1 a i v on in (r.0, inr r.1, r.2, r.3)
@@ -288,21 +288,22 @@ above_root (c ∷ begun) all a (inl is) v on =
     by ih kind.Nested s on = below ih s.0 (in_from s.0 begun s.1) s.3 on
     by ih kind.Constituent s on = below ih s.0 (in_from s.0 begun s.1) s.3 on
 
+-- actions that are distinct were so before lines came
+pub distinct_before : (xs : List Act) (ls : List Line) → AreDistinct (acts_from xs ls) → AreDistinct xs
+distinct_before xs [] apart = apart
+distinct_before xs (l ∷ ls) apart = by l.body (distinct_before (acts_after xs l.body) ls apart)
+  where
+    by : (b : Body) → AreDistinct (acts_after xs b) → AreDistinct xs
+    by (body.Began m k w p) apart = apart.3
+    by b apart = apart
+
 -- the path of one that began stays as lines come
-by_stays : (xs : List Act) (ls : List Line) → AreDistinct (acts_from xs ls) → (u : Uid) → has_act xs u ≡ true →
+pub by_stays : (xs : List Act) (ls : List Line) → AreDistinct (acts_from xs ls) → (u : Uid) → has_act xs u ≡ true →
     path_by (acts_from xs ls) u ≡ path_by xs u
 by_stays xs [] distinct u there = refl
 by_stays xs (l ∷ ls) distinct u there =
-    by_stays (acts_after xs l.body) ls distinct u (more l.body there) ∙ one l.body (older (acts_after xs l.body) ls distinct) there
+    by_stays (acts_after xs l.body) ls distinct u (more l.body there) ∙ one l.body (distinct_before (acts_after xs l.body) ls distinct) there
   where
-    older : (ys : List Act) (ms : List Line) → AreDistinct (acts_from ys ms) → AreDistinct ys
-    older ys [] apart = apart
-    older ys (m ∷ ms) apart = by m.body (older (acts_after ys m.body) ms apart)
-      where
-        by : (b : Body) → AreDistinct (acts_after ys b) → AreDistinct ys
-        by (body.Began l k w p) apart = apart.3
-        by b apart = apart
-
     more : (b : Body) → has_act xs u ≡ true → has_act (acts_after xs b) u ≡ true
     more (body.Began l k w p) is = or_last (uid_eq w u) is
       where

@@ -16,7 +16,7 @@ use Rattle.arj_start.specs.Start.{Start}
 use Rattle.arj_law_cause.proofs.bindings.Active.{active_row}
 use Rattle.arj_law_cause.proofs.bindings.Bound.{bound_row}
 use Rattle.arj_law_cause.proofs.bindings.Lowered.{lowered_row}
-use Rattle.arj_law_cause.proofs.confirm.Runs.{bare_row, changed_test, listed_row, met_row, old_test}
+use Rattle.arj_law_cause.proofs.confirm.{Overdue.old_row, Runs.bare_row, Runs.changed_test, Runs.listed_row, Runs.met_row}
 use Rattle.arj_law_cause.proofs.kinds.Aborts.{abort_row}
 use Rattle.arj_law_cause.proofs.kinds.Committed.{done_row}
 use Rattle.arj_law_cause.proofs.kinds.Denied.{step_fits}
@@ -45,7 +45,7 @@ use Rattle.arj_law_cause.specs.kinds.Kinds.{is_granted_entry, is_granted_object,
 use Rattle.arj_law_cause.specs.kinds.Kinds.{is_lost_commit, is_met_abort, is_node_given_up, is_old_abort, is_opening, is_prepared, is_quiet}
 use Rattle.arj_law_cause.specs.kinds.Kinds.{is_sent, is_told, is_up, is_void}
 use Rattle.arj_law_cause.specs.kinds.Rows.{row, tested}
-use Rattle.arj_law_cause.specs.kinds.Tests.{is_changed_so, is_committed_so, is_old_so}
+use Rattle.arj_law_cause.specs.kinds.Tests.{is_changed_so, is_committed_so}
 use Rattle.arj_law_cause.specs.rows.Lines.{answer_fits}
 use Rattle.arj_law_cause.specs.told.Lines.{TellsWhy, is_told_why}
 
@@ -140,7 +140,7 @@ others =
     ∷ []
 
 abbrev tests : List Test
-tests = row (λ h. is_node_given_up) ∷ tested is_old_so (λ h. is_old_abort) ∷ tested is_changed_so (λ h. is_changed_abort) ∷ others
+tests = row (λ h. is_node_given_up) ∷ row (λ h. is_old_abort) ∷ tested is_changed_so (λ h. is_changed_abort) ∷ others
 
 module _ (hd : Header) (r : Run hd) (form : IsInForm hd r) where
   abbrev Its : Test → Type 0
@@ -236,7 +236,7 @@ module _ (hd : Header) (r : Run hd) (form : IsInForm hd r) where
   all_known : AllByRecursion Its tests
   all_known = (
     (λ h c. refl, given_row hd r form),
-    ((λ h c. refl, old_test hd r form), ((λ h c. refl, changed_test hd r form), others_known)),
+    ((λ h c. refl, old_row hd r form), ((λ h c. refl, changed_test hd r form), others_known)),
   )
 
 -- what a line passes says why it stands
@@ -275,7 +275,7 @@ why h (body.Conflict l u mode n) is = (and_parts (answer_fits h (body.Conflict l
 why h (body.Changed l n d) is = (and_parts (answer_fits h (body.Changed l n d)) true is).0
 why h (body.Committed l) is = (and_parts (is_committed_so h (body.Committed l)) true is).0
 why h (body.Aborted l (cause.Changed n d)) is = (and_parts (is_changed_so h (body.Aborted l (cause.Changed n d))) true is).0
-why h (body.Aborted l (cause.Old n x v)) is = (and_parts (is_old_so h (body.Aborted l (cause.Old n x v))) true is).0
+why h (body.Aborted l (cause.Old n x v)) is = (and_parts (is_told_why h (body.Aborted l (cause.Old n x v))) true is).0
 why h (body.GaveUp l n) is = (and_parts (is_told_why h (body.GaveUp l n)) true is).0
 why h (body.Excluded l x n) is = (and_parts (has_cause h (body.Excluded l x n)) true is).0
 why h (body.Prepared n u r) is = (and_parts (is_told_why h (body.Prepared n u r)) true is).0

@@ -52,13 +52,6 @@ is_committed_so h (body.Committed l) =
     (act_in (acts h.lines) (name l))
 is_committed_so h _ = true
 
--- `aborted` with `old`. But for a restart of naming it has its cause: the store answered the Prepare of what the top changes, and by then
--- the object had this version or a later one, above zero, which counts the committed tops that wrote it from where the run began.
-abbrev pub is_old_so : Here → Body → Bool
-is_old_so h (body.Aborted l (cause.Old n x v)) = nat_le 1 v && commits_so h (name l) (λ a c. changes h.lines a.id x
-    && answered h c a.uid.node n (frame.Prepared ∷ []) (λ before. nat_le v ((h.start.marks.states x).version + writers before x)))
-is_old_so h _ = true
-
 -- the frames in which a node answers that so much changed: a server its Vote, and naming, by its incarnation alone, its Confirm
 abbrev pub change_kinds : Difference → List FrameKind
 change_kinds (difference.Inc had now) = frame.Voted ∷ frame.Confirmed ∷ []
