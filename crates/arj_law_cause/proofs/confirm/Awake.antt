@@ -18,8 +18,8 @@ use Rattle.arj_law_runs.proofs.follow.Uids.{KnowsNext, next_keep}
 use Rattle.arj_law_runs.proofs.kept.{Starts.first_at, Walked.same_number}
 use Rattle.arj_law_runs.specs.calls.Bindings.{HasFewBindings, bindings_made}
 use Rattle.arj_law_serial.proofs.joint.{Showing.first_place, Showing.node_there}
-use Rattle.arj_law_serial.specs.joint.Fit.{OpFits, OpsFit}
-use Rattle.arj_model.specs.Actions.{Act, acts as acts_of, acts_after, acts_from}
+use Rattle.arj_law_serial.specs.joint.Fit.{OpsFit}
+use Rattle.arj_model.specs.Actions.{Act, acts_after, acts_from}
 use Rattle.arj_model.specs.Refusals.{incarnation}
 use Rattle.arj_law_cause.specs.rows.Early.{IsEarly}
 use Rattle.arj_law_cause.proofs.confirm.Reached
@@ -236,18 +236,21 @@ module _ (k : ℕ) (off : (k == 1) ≡ false) (front : List Line) (n : Node) whe
       mirror e es v d (said e (b ∷ []) L) (said e (b ∷ []) M) N (as_said e (b ∷ []) L M front h.0, h.1, h.2) way
   mirror e (Send to m ∷ es) v d L M N h way =
       let z = mirror e es v d (said e way.0 (posted (record { from = k; to = to; message = m }) L))
-      (said e way.0 (posted (record { from = k; to = to; message = m }) M)) N
-      (as_said e way.0 (posted (record { from = k; to = to; message = m }) L) (posted (record { from = k; to = to; message = m }) M) front
-      (record {
-        start = h.0.start;
-        sent = λ i. record { from = k; to = to; message = m } ∷ h.0.sent i;
-        labels = h.0.labels;
-        gone = h.0.gone;
-        rest = h.0.rest;
-        lines = h.0.lines;
-        theirs = h.0.theirs;
-        left = h.0.left;
-      }), h.1, h.2) way.2 in
+      (said e way.0 (posted (record { from = k; to = to; message = m }) M)) N (
+        as_said e way.0 (posted (record { from = k; to = to; message = m }) L) (posted (record { from = k; to = to; message = m }) M) front
+            (record {
+              start = h.0.start;
+              sent = λ i. record { from = k; to = to; message = m } ∷ h.0.sent i;
+              labels = h.0.labels;
+              gone = h.0.gone;
+              rest = h.0.rest;
+              lines = h.0.lines;
+              theirs = h.0.theirs;
+              left = h.0.left;
+            }),
+        h.1,
+        h.2,
+      ) way.2 in
       (z.0, (way.0, way.1, z.1), z.2)
 
 -- ---- naming's own node
@@ -367,8 +370,12 @@ module _ (hd : Header) (form : HeaderInForm hd) where
     others = λ j other. at_other k d (Some t) L j (ap (λ m. j == m) one ∙ other) ∙ sym (h.others j (ap (λ m. j == m) one ∙ other));
     own = λ n v here live. none_up n v
         (ap (λ (m : Node). m.live) (some_is (sym here ∙ ap N.nodes (sym one) ∙ h.down))) live;
-    life = inl (t, refl, ap (λ st. incarnation st L.lines 1) h.start
-        ∙ (let q = (next (up k d t L) r).1 1 (record { number = k; disk = d; live = Some t }) there in q.1 t refl).0);
+    life = inl (
+      t,
+      refl,
+      ap (λ st. incarnation st L.lines 1) h.start
+          ∙ (let q = (next (up k d t L) r).1 1 (record { number = k; disk = d; live = Some t }) there in q.1 t refl).0,
+    );
   }
     where
       there : (up k d t L).nodes 1 ≡ Some (record { number = k; disk = d; live = Some t })

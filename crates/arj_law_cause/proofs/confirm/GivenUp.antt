@@ -10,11 +10,9 @@ use Words.{step_commit, asks_machine, says, say_for, Asks, CommitStep}
 use Words.body
 use Words.commit
 use Words.input
-use Rattle.arj_law_parts.proofs.Terms.{halted}
 use Rattle.arj_law_parts.proofs.moves.{Happens.keeps_asked, Places.place_same}
 use Rattle.arj_law_parts.proofs.parts.SaidIncs.{all_both, all_flat}
 use Rattle.arj_law_parts.specs.moves.Seen.{at, posted, said, up}
-use Rattle.arj_law_parts.specs.steps.Named.{names_of}
 use Rattle.arj_law_runs.proofs.follow.{Halts.KnowsAll, Halts.halts_keep, Labeled.KnowsFinds, Labeled.finds_keep}
 use Rattle.arj_law_runs.proofs.journal.Owners.{acts_more}
 use Rattle.arj_law_runs.proofs.kept.Walked.{same_number}
@@ -104,21 +102,27 @@ minor_way e k [] v d M all = (
 )
 minor_way e k (Do w ∷ es) v d M all = absurd all.0
 minor_way e k (Say b ∷ es) v d M all =
-    let z = minor_way e k es v d (said e (b ∷ []) M) all.1 in
-    (z.0, z.1, record {
-      here = z.2.here;
-      others = z.2.others;
-      start = z.2.start;
-      early = λ early. z.2.early (early_one M.lines e b all.0 early);
-    })
+    let z = minor_way e k es v d (said e (b ∷ []) M) all.1 in (
+      z.0,
+      z.1,
+      record {
+        here = z.2.here;
+        others = z.2.others;
+        start = z.2.start;
+        early = λ early. z.2.early (early_one M.lines e b all.0 early);
+      },
+    )
 minor_way e k (Send to m ∷ es) v d M all =
-    let z = minor_way e k es v d (said e [] (posted (record { from = k; to = to; message = m }) M)) all.1 in
-    (z.0, ([], refl, z.1), record {
-      here = z.2.here;
-      others = z.2.others;
-      start = z.2.start;
-      early = λ early. z.2.early (subst IsEarly (sym (append-nil M.lines)) early);
-    })
+    let z = minor_way e k es v d (said e [] (posted (record { from = k; to = to; message = m }) M)) all.1 in (
+      z.0,
+      ([], refl, z.1),
+      record {
+        here = z.2.here;
+        others = z.2.others;
+        start = z.2.start;
+        early = λ early. z.2.early (subst IsEarly (sym (append-nil M.lines)) early);
+      },
+    )
 
 -- ---- what is given up
 

@@ -19,11 +19,11 @@ use Words.prepared
 use Words.voted
 use Words.ending
 use Rattle.arj_law_parts.proofs.coordinator
-use coordinator.Trace.{Came, Takes, Hears, IsAcked, Ticks, turned, kept_at_start, used_at, renewed_at, rested, noted, took_part, settled_by}
-use coordinator.Trace.{CallTurn, Answers, GivesUp, CommitTurn, BeginsCommit, AnswersCommit, GivesCommitUp, CommitOn}
+use coordinator.Trace.{Came, Takes, Hears, turned, kept_at_start, used_at, rested, took_part}
+use coordinator.Trace.{CallTurn, Answers, GivesUp, CommitTurn, BeginsCommit, AnswersCommit, GivesCommitUp}
 use coordinator.Trace.{Move, Renews, Turns, Notes, KeepsAfter, SentTo, Rests, Waits, CommitsIn, EndsAt, TakesPart, Trace, trace_keeps}
 use coordinator.Walks.{acked_trace, acts_trace, again_trace, heard_trace}
-use coordinator.Works.{KeepsWorks, Works, works_begun, works_move, works_new}
+use coordinator.Works.{KeepsWorks, works_begun, works_move, works_new}
 use Rattle.arj_law_parts.proofs.parts.LivesNamed.{keyed_at, keyed_put}
 
 -- ---- what is known

@@ -1,12 +1,12 @@
 -- What roots were granted on entries stands in the journal, and what plans of commits use: at each node that is up, whatever nodes do.
 use Rattle.arj_law_parts.proofs.Words
-use Words.{⊤, ◌≡◌, ◌≤◌, ◌∙◌, ◌==◌, ◌+◌, ◌++◌, ◌&&◌, eqb-true, ℕ, Bool, true, false, cond, if◌then◌else◌, List, [], ◌∷◌, Option, Some, None, IfSome, refl, sym}
-use Words.{ap, subst, and_parts, AllByRecursion, Ask, Asked, Binding, Body, BoundReply, End, Head, Header, Kind, Label, Line, Message, Reply, Start}
-use Words.{Uid, actor, answers, asks, entry, first_uid, numbered, top_of, frame_kind, is_nested, is_serial, ask_at, ask_kind, reply_kind, next_ask}
-use Words.{next_node, waits_for_call, is_include, At, AtActivate, AtBind, AtInvoke, AtLoad, AtNote, Goal, Include, Run, Steps, Calling, Coord}
+use Words.{⊤, ◌≡◌, ◌≤◌, ◌∙◌, ◌==◌, ◌+◌, ◌++◌, ◌&&◌, eqb-true, ℕ, Bool, true, false, if◌then◌else◌, List, [], ◌∷◌, Option, Some, None, IfSome, refl, sym}
+use Words.{ap, subst, and_parts, Ask, Asked, Binding, Body, End, Head, Header, Kind, Label, Line, Message, Reply, Start}
+use Words.{Uid, actor, answers, entry, first_uid, numbered, top_of, frame_kind, is_serial, ask_at, ask_kind, reply_kind, next_ask}
+use Words.{next_node, waits_for_call, is_include, At, AtActivate, AtBind, AtInvoke, AtLoad, AtNote, Goal, Steps, Calling, Coord}
 use Words.{Doing, doing_of, Grant, granted_by, is_own, root_of, acked, again_all, begin_action, heard, Disk, Do, Effect, Say, Send, stopped}
-use Words.{worked, Handled, Parts, Took, Void, handle, handle_ends, handle_other, serve, coord_heard, last_end, with_coord, tick_outs, Input, Node}
-use Words.{acts as does, parent_of, parts_in, restart_outs, refusal_up, branch_named, Branch, branch_of, Post, Seen, see, world_from, by_reply}
+use Words.{worked, Handled, Parts, Took, Void, handle, handle_ends, handle_other, serve, last_end, with_coord, tick_outs, Input, Node}
+use Words.{acts as does, parent_of, parts_in, restart_outs, refusal_up, Post, Seen, see, world_from}
 use Words.ask
 use Words.body
 use Words.bound
@@ -14,11 +14,11 @@ use Words.frame
 use Words.input
 use Words.message
 use Words.mode
-use Rattle.arj_law_lock_view.proofs.Terms.{is_act, same_number}
+use Rattle.arj_law_lock_view.proofs.Terms.{same_number}
 use Rattle.arj_law_lock_view.proofs.facts.Requests.{requests_keep}
 use Rattle.arj_law_lock_view.specs.facts.Requests.{IsAskedBy, RequestsAreKnown}
 use Rattle.arj_law_lock_view.specs.moments.Made.{AnswersAreMade, AnswersTo}
-use Rattle.arj_law_parts.proofs.coordinator.Trace.{Came, Hears, Takes}
+use Rattle.arj_law_parts.proofs.coordinator.Trace.{Hears, Takes}
 use Rattle.arj_law_parts.proofs.moves.{Flat.post, Happens.Wide, Happens.keeps_asked, Together.with_both}
 use Rattle.arj_law_parts.specs.moves.Moments.{Moment, asks_now, at, fits, framed_if, given, no_history, posted, said, sent, up}
 use Rattle.arj_law_parts.specs.moves.Seen as seen
@@ -28,7 +28,7 @@ use Rattle.arj_law_parts.specs.parts.Requests.{IsNumbered}
 use Rattle.arj_law_promise.proofs.Terms.{by_coord, by_message}
 use Rattle.arj_law_runs.proofs.follow.Halts.{KnowsAll, halts_keep}
 use Rattle.arj_law_runs.proofs.resting.Serving.{IsServed, serve_served}
-use Rattle.arj_law_runs.specs.calls.Coords.{IsOfStep, bare, head_of}
+use Rattle.arj_law_runs.specs.calls.Coords.{IsOfStep, head_of}
 use Rattle.arj_law_runs.specs.journal.Right.{has_act}
 use Rattle.arj_law_serial.proofs.Terms.{acts, disk_by, first_up, path_by, uids}
 use Rattle.arj_law_serial.proofs.joint.{MarkRuns.own_doing}
@@ -36,7 +36,7 @@ use Rattle.arj_model.specs.CauseAnswers.{has_lock}
 use Rattle.arj_model.specs.Refusals.{incarnation}
 use Rattle.arj_promise.specs.Starts.{next_inc}
 use Rattle.arj_law_cause.proofs.confirm.{Granted.CameHad, Granted.CoordHad, Granted.had_acked, Granted.had_acts, Granted.had_again}
-use Rattle.arj_law_cause.proofs.confirm.{Granted.had_begins, Granted.had_heard, Granted.had_map, Granted.had_new, Grants.grants_so}
+use Rattle.arj_law_cause.proofs.confirm.{Granted.had_begins, Granted.had_heard, Granted.had_map, Granted.had_new}
 use Rattle.arj_law_cause.proofs.confirm.{Had.HadIn, Had.PlanSo, Had.had_in_more, Had.plan_more, Planned.plan_so, Reached.Reached}
 use Rattle.arj_law_cause.proofs.confirm.{Reached.reached_has, Says.confirms_so, Says.says_of}
 use Rattle.arj_law_cause.proofs.confirm.Placed as placed

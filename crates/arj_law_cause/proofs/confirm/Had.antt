@@ -1,13 +1,13 @@
 -- Locks on entries that were had by lines, and what plans of commits use by lines: as lines come it stays so.
 use Rattle.arj_law_parts.proofs.Words
-use Words.{◌≡◌, ◌≤◌, ◌∙◌, ◌++◌, ◌||◌, ℕ, Bool, true, false, List, [], ◌∷◌, refl, sym, ap, subst, append_assoc, Line, Start, Uid, entry, first_uid, is_on}
-use Words.{uid_eq, Used, Binding}
+use Words.{◌≡◌, ◌≤◌, ◌∙◌, ◌++◌, ℕ, true, false, List, [], sym, ap, subst, append_assoc, Line, Start, Uid, entry, first_uid, is_on}
+use Words.{uid_eq, Used}
 use Words.mode
 use Rattle.arj_law_runs.proofs.calls.WholeRuns.{few_before}
 use Rattle.arj_law_runs.specs.calls.Bindings.{HasFewBindings}
-use Rattle.arj_law_runs.specs.journal.Book.{Book, book}
+use Rattle.arj_law_runs.specs.journal.Book.{book}
 use Rattle.arj_law_runs.specs.journal.Right.{has_act}
-use Rattle.arj_law_serial.proofs.Terms.{Act, AreDistinct, acts, acts_from, acts_more, path_by, uids}
+use Rattle.arj_law_serial.proofs.Terms.{Act, AreDistinct, acts, acts_more, path_by, uids}
 use Rattle.arj_model.specs.CauseAnswers.{has_lock}
 use Rattle.arj_model.specs.Refusals.{incarnation}
 use Rattle.arj_promise.specs.Starts.{next_inc}

@@ -1,12 +1,11 @@
 -- Wherever a commit that waits for naming names a grant of naming's present incarnation, or a later one, no store that it asked holds a state
 -- above the one that it was sent.
 use Rattle.arj_law_parts.proofs.Words
-use Words.{⊤, ◌≡◌, ◌≤◌, ◌∙◌, ◌+◌, ℕ, true, List, Option, Some, None, refl, sym, ap, subst, option_map, is_some, Header, ObjectState, Uid, object}
+use Words.{⊤, ◌≡◌, ◌∙◌, ℕ, true, List, Some, None, sym, ap, subst, option_map, is_some, Header, ObjectState, Uid, object}
 use Words.{held_at, Used}
-use Words.{Branch, branch_of, Committing, Confirming, Doing, doing_of, Node, Parts, Plan, Seen, World, see, uid_number}
+use Words.{Branch, branch_of, Committing, Confirming, Doing, doing_of, Node, Parts, Plan, Seen, World, see}
 use Rattle.arj_journal.specs.ScriptForm.{HeaderInForm}
 use Rattle.arj_law_disk.specs.machine.State.{Below, Packed, state_for, target}
-use Rattle.arj_law_disk_view.proofs.running.ListedRuns.{IsSeenBegun}
 use Rattle.arj_law_disk_view.specs.view.Pairs.{packed}
 use Rattle.arj_law_disk_view.specs.view.Plans.{plan_at, used_at}
 use Rattle.arj_law_disk_view.specs.view.Stores.{SeesStore}

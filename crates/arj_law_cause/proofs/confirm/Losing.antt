@@ -1,11 +1,11 @@
 -- What a store's answer to a Prepare says, where it refuses a state as too late: of which object that is, of which version, and that naming
 -- came up again since the root of the action that asks first had a lock on the object's entry.
 use Rattle.arj_law_parts.proofs.Words
-use Words.{⊤, ◌≡◌, ◌≤◌, ◌∙◌, ◌==◌, ◌++◌, ℕ, Bool, true, false, if◌then◌else◌, List, [], ◌∷◌, length, Option, Some, None, refl, sym, ap, subst, inl, inr}
-use Words.{is_some, eqb-true, append_assoc, in_find, in_from, in_to, AllByRecursion, Contains, In, Ask, Disk, Do, Effect, Say, Send, Handled, Head, Header}
-use Words.{Line, Message, Node, ObjectState, Parts, Post, Prep, PreparedReply, Prepare, Ready, Already, InDoubt, Old, Look, Reply, Seen, Start, Took, Void}
-use Words.{Uid, Used, Committing, Machine, Plan, plan_of, actor, asks, asked_by, response, entry, first_uid, uid_eq, uid_is, uids_of, is_on}
-use Words.{handle, handle_ask, is_meant, is_prepared, object, prepare_answer, prepare_by, sends_answer, serve}
+use Words.{⊤, ◌≡◌, ◌≤◌, ◌∙◌, ◌==◌, ◌++◌, ℕ, Bool, true, false, if◌then◌else◌, List, [], ◌∷◌, length, Option, Some, None, refl, sym, ap, subst}
+use Words.{eqb-true, append_assoc, in_find, in_to, AllByRecursion, In, Ask, Disk, Do, Effect, Say, Send, Head, Header}
+use Words.{Line, Message, Node, ObjectState, Parts, Prep, PreparedReply, Prepare, Ready, Already, InDoubt, Old, Look, Reply, Seen, Start, Took, Void}
+use Words.{Uid, Used, plan_of, actor, asks, asked_by, response, entry, first_uid, uid_eq, uid_is, uids_of, is_on}
+use Words.{handle_ask, is_prepared, prepare_answer, prepare_by, sends_answer, serve}
 use Words.ask
 use Words.body
 use Words.mode
@@ -14,15 +14,16 @@ use Words.role
 use Rattle.arj_journal.specs.ScriptForm.{HeaderInForm}
 use Rattle.arj_law_disk.specs.machine.State.{target}
 use Rattle.arj_law_disk_view.specs.view.Plans.{plan_at, plan_by, used_at}
-use Rattle.arj_law_lock_view.proofs.Terms.{same_number, some_is}
+use Rattle.arj_law_lock_view.proofs.Terms.{same_number}
 use Rattle.arj_law_lock_view.specs.moments.Made.{Saying, Tells, lines_behind}
 use Rattle.arj_law_parts.proofs.moves.Happens.{Wide}
 use Rattle.arj_law_parts.proofs.parts.Begun.{on_own, path_some}
-use Rattle.arj_law_parts.specs.moves.Moments.{Moment, is_restart, up}
+use Rattle.arj_law_parts.specs.moves.Moments.{Moment, up}
 use Rattle.arj_law_parts.specs.moves.Seen as seen
 use Rattle.arj_law_runs.proofs.journal.{Models.its_sound, Ties.on_path}
+use Rattle.arj_law_runs.proofs.resting.PlainRuns.{each_of}
 use Rattle.arj_law_runs.specs.journal.Book.{new_book}
-use Rattle.arj_law_runs.specs.journal.Right.{AreRight, has_act}
+use Rattle.arj_law_runs.specs.journal.Right.{AreRight}
 use Rattle.arj_law_serial.proofs.Terms.{Act, Action, AreDistinct, act_of, acts, path, path_by, uids}
 use Rattle.arj_law_serial.proofs.order.Paths.{found}
 use Rattle.arj_law_serial.proofs.tables.Holders.{path_fits}
@@ -31,9 +32,9 @@ use Rattle.arj_model.specs.CauseAnswers.{has_lock}
 use Rattle.arj_model.specs.CauseCommits.{has_restarted}
 use Rattle.arj_model.specs.CauseCopies.{has_entered_in}
 use Rattle.arj_model.specs.Refusals.{incarnation, is_root}
-use Rattle.arj_law_cause.proofs.confirm.{Called.BasedCalled, Called.called_keep, Called.is_called, Granted.CoordHad, Granted.NowHad}
+use Rattle.arj_law_cause.proofs.confirm.{Called.BasedCalled, Called.called_keep, Called.is_called, Granted.NowHad}
 use Rattle.arj_law_cause.proofs.confirm.{Granting.GrantsAreHad, Granting.IsHadSo, Had.HadIn, Had.IsUsedSo, Had.PlanSo, Had.WasHad}
-use Rattle.arj_law_cause.proofs.confirm.{Joined.IsEarly, Labels.written, Olds.IsTooLate, Olds.says_late, Olds.too_late, Opened.IsAtCommit}
+use Rattle.arj_law_cause.proofs.confirm.{Labels.written, Olds.IsTooLate, Olds.says_late, Olds.too_late, Opened.IsAtCommit}
 use Rattle.arj_law_cause.proofs.confirm.{Reached.Reached, Reached.reached_has, Restarted.no_such, Restarts.same_life}
 use Rattle.arj_law_cause.proofs.confirm.Olds as olds
 use Rattle.arj_law_cause.proofs.confirm.Placed as placed
@@ -58,11 +59,6 @@ abbrev pub old_so : Start → Saying
 old_so st a before = says_old st (let z = a in z.head) (let z = a in z.ask) (let z = a in z.reply) before
 
 -- ---- where a store serves it
-
-all_at : {A : Type 0} (Q : A → Type 0) (a : A) (xs : List A) → AllByRecursion Q xs → In a xs → Q a
-all_at Q a [] every i = absurd i
-all_at {A} Q a (y ∷ ys) every (inl same) = subst Q same every.0
-all_at Q a (y ∷ ys) every (inr i) = all_at Q a ys every.1 i
 
 root_is : (o q : Option ℕ) → is_root o q ≡ true → o ≡ q
 root_is None q is = absurd (cc is)
@@ -131,7 +127,7 @@ module _ (hd : Header) (form : HeaderInForm hd) (Z : Seen) (reached : Reached hd
 
     -- what the plan uses was had by lines before
     E : IsUsedSo Z.start Z.lines a.uid r.0
-    E = all_at (PlanSo Z.start Z.lines a.uid) r.0 used plan among.0 (let e = settled.early in e.few)
+    E = each_of (PlanSo Z.start Z.lines a.uid) used r.0 plan among.0 (let e = settled.early in e.few)
       where
         coord : IsHadSo Z.start Z.lines (let p = c.parts in p.coord)
         coord = had (let u = a.uid in u.node) c.node c.parts c.there c.live

@@ -1,16 +1,16 @@
 -- Where a commit that waits for naming names a grant of naming's present incarnation, or a later one, what the top wrote is one version above
 -- the last state; so no store refuses it as too late.
 use Rattle.arj_law_parts.proofs.Words
-use Words.{Contains, [], ◌∷◌, ◌≡◌, ◌⊎◌, ◌≤◌, ◌<◌, ◌+◌, ◌*◌, ◌==◌, ℕ, Bool, true, false, List, Option, Some, None, is_some, refl, sym, ◌∙◌, ap, subst, inl}
-use Words.{inr, ⊎_elim, arith, eqb-true, uid_is, in_find, in_to, in_from, ObjectState, Uid, object, uid_eq, Confirming, Used, changed_of}
-use Words.{Committing, Doing, doing_of, Disk, Naming, Parts, uid_number, Node, Branch, branch_of, Seen, Plan, AllByRecursion}
+use Words.{[], ◌∷◌, ◌≡◌, ◌⊎◌, ◌≤◌, ◌<◌, ◌+◌, ◌*◌, ◌==◌, ℕ, Bool, true, false, List, Option, Some, None, is_some, refl, sym, ◌∙◌, ap, subst, inl}
+use Words.{inr, arith, eqb-true, uid_is, in_find, in_to, ObjectState, Uid, object, uid_eq, Confirming, Used, changed_of}
+use Words.{Committing, Doing, doing_of, Naming, Parts, uid_number, Node, Branch, branch_of, Seen, Plan, AllByRecursion}
 use Words.list
 use Rattle.arj_law_serial.proofs.Terms
-use Terms.{Act, acts, Values, Action, act_of, KnowsRun, Core, Whole, World, Office, Packed, decided, last, undecided, last_known, packed}
+use Terms.{Act, acts, Values, Action, KnowsRun, Core, Whole, World, Office, Packed, decided, last, undecided, last_known, packed}
 use Terms.{plan_by, SeesConfirming, confirming_of, Kinds, SeesCoord, SeesBoth, HasFewLabels, SeesDecided, SeesHeard, book, new_book, IsGiven}
-use Terms.{AreAlike, AreRight, its_acts, Guard, stay, Alive, Call, State, ConfirmTop, IsLast, IsSeenIn, Spot, world_at, BeginsAs, Fixed}
+use Terms.{AreRight, its_acts, Guard, stay, Alive, Call, State, ConfirmTop, IsLast, IsSeenIn, Spot, world_at, BeginsAs, Fixed}
 use Terms.{view_of, case_of, SeesMemory, SeesUp, SeesDown, AreVotedAt, SeesNamingIn, SeesNaming, AreApart, AreBased, IsVotedOver, ArePlannedSo}
-use Terms.{ChangesCalled, IsPlannedSo, NodesAreThere, IsOrdered, some_is}
+use Terms.{ChangesCalled, IsPlannedSo, NodesAreThere, IsOrdered}
 use Terms.disk
 use Terms.machine as lock
 use Rattle.arj_law_disk.proofs.machine.NamingResults.{old_needs_restart}
@@ -20,7 +20,6 @@ use Rattle.arj_law_disk_view.proofs.running.FewDecided.{known_short}
 use Rattle.arj_law_disk_view.specs.{deciding_lines.Said.IsTied, running.Heard.SeesHeardAt, running.Heard.SeesPlan, view.Plans.plan_at}
 use Rattle.arj_law_disk_view.specs.view.Plans.{used_at}
 use Rattle.arj_law_lock_view.specs.view.Plans.{SeesMachine}
-use Rattle.arj_law_parts.specs.moves.Seen.{up}
 use Rattle.arj_law_serial.proofs.joint
 use joint.{Counting.at_commit, Counting.changed_counted, Joining.among_of, Turns.IdleThere}
 use joint.BasedPlans.{is_next, over_here}

@@ -7,8 +7,6 @@ use Words.{states_for, ask_of, waits_for_commit, Committing, Doing, doing_of, Di
 use Words.{ask_kind}
 use Words.{reply_kind, Uid, is_waiting_now, uid_eq, uid_same}
 use Words.ask
-use Words.body
-use Words.cause
 use Words.frame
 use Words.prepared
 use Rattle.arj_journal.specs.ScriptForm.{HeaderInForm}

@@ -1,9 +1,9 @@
 -- A coordinator where it is reached: its actions began, and have the journal's paths.
 use Rattle.arj_law_parts.proofs.Words
-use Words.{◌≡◌, ◌≤◌, ◌∙◌, ◌==◌, ◌||◌, ℕ, Bool, true, false, List, [], ◌∷◌, Option, Some, None, refl, sym, ap, subst, Contains, In, in_from, in_to}
-use Words.{uid_eq, uid_same, is_on, first_uid, last_uid, uids_of, Uid, Path, actor, top_of, Header, Node, Parts, Seen, Coord, Branch, branch_of}
+use Words.{◌≡◌, ◌∙◌, ℕ, true, List, Some, sym, ap, subst, in_from}
+use Words.{uid_eq, uid_same, is_on, first_uid, uids_of, Uid, Path, top_of, Header, Node, Parts, Seen, Branch, branch_of}
 use Words.{root_of, is_own}
-use Rattle.arj_law_lock_view.proofs.Terms.{Action, AreBegun, IsTree, act_of, action_of, begun_tree, paths_of}
+use Rattle.arj_law_lock_view.proofs.Terms.{Action, AreBegun, IsTree, action_of, begun_tree, paths_of}
 use Rattle.arj_law_lock_view.proofs.facts.Kept.{Place}
 use Rattle.arj_law_lock_view.proofs.moments.Answers.{Known, known_keep}
 use Rattle.arj_law_lock_view.proofs.records.Tops.{top_on_path}
@@ -11,8 +11,8 @@ use Rattle.arj_law_parts.proofs.moves.Happens.{keeps_asked}
 use Rattle.arj_law_runs.proofs.Terms.{IsGoodOf, IsMemory, IsUp, path_found}
 use Rattle.arj_law_runs.proofs.calls.CoordKnown.{root_own}
 use Rattle.arj_law_runs.proofs.follow.Halts.{KnowsAll, halts_keep}
-use Rattle.arj_law_runs.proofs.journal.{Models.its_acts, Models.its_sound, Paths.IsNamed, Paths.paths_keep}
-use Rattle.arj_law_runs.specs.journal.Book.{Book, book, new_book}
+use Rattle.arj_law_runs.proofs.journal.{Models.its_acts, Paths.IsNamed, Paths.paths_keep}
+use Rattle.arj_law_runs.specs.journal.Book.{book, new_book}
 use Rattle.arj_law_runs.specs.journal.Knows.{KnowsUp}
 use Rattle.arj_law_runs.specs.journal.Paths.{IsAlike}
 use Rattle.arj_law_runs.specs.journal.Right.{AreRight, has_act}

@@ -13,30 +13,23 @@ use Words.input
 use Words.kind
 use Words.list
 use Rattle.arj_law_lock_view.proofs.Terms
-use Terms.{HasGrant, IsGranted, KnowsGrants, IsSpent, IsJoin, IsIncluded, KnowsKept, Tests, Passes, PassesNode, Action, AreBegun, act_of}
+use Terms.{IsGranted, KnowsGrants, IsSpent, IsJoin, IsIncluded, KnowsKept, Tests, Passes}
 use Terms.{action_of, paths_of, begun_tree, surviving, retained}
-use Rattle.arj_law_lock_view.proofs.moments.Answers.{Known, known_keep}
 use Rattle.arj_law_lock_view.proofs.facts.{Grants.grants_keep, Kept.Place, LowGrants.map_in}
 use Rattle.arj_law_lock_view.proofs.records.{Free.records_run_on, Tops.top_on}
 use Rattle.arj_law_lock_view.specs.facts.Grants.{GrantsAreKnown}
-use Rattle.arj_law_lock_view.specs.records.{Claims.AreFitting, Runs.RecordsRun, Tests.PassesLive}
+use Rattle.arj_law_lock_view.specs.records.{Runs.RecordsRun, Tests.PassesLive}
 use Rattle.arj_law_parts.proofs.moves.Happens.{keeps_asked}
+use Rattle.arj_law_runs.proofs.resting.PlainRuns.{each_of}
 use Rattle.arj_law_runs.proofs.Terms.{own_is}
-use Rattle.arj_law_runs.proofs.calls.CoordKnown.{root_own}
-use Rattle.arj_law_runs.proofs.follow.Halts.{KnowsAll, halts_keep}
-use Rattle.arj_law_runs.proofs.journal.{Coords.waits_free, Likes.not_committing, Models.its_acts, Paths.IsNamed, Paths.paths_keep}
+use Rattle.arj_law_runs.proofs.journal.{Coords.waits_free, Likes.not_committing}
 use Rattle.arj_law_runs.proofs.journal.Beginning as Beginning
 use Rattle.arj_law_runs.specs.addresses.Binds as binds
-use Rattle.arj_law_runs.specs.calls.Bindings.{HasFewBindings}
-use Rattle.arj_law_runs.specs.journal.Book.{Book, book, new_book}
-use Rattle.arj_law_runs.specs.journal.Knows.{KnowsUp}
-use Rattle.arj_law_runs.specs.journal.Right.{AreRight, has_act}
-use Rattle.arj_law_serial.proofs.Terms.{Act, AreAlike, AreDistinct, acts, any_in, path_by, uids}
-use Rattle.arj_law_serial.proofs.tables.Holders.{path_fits}
-use Rattle.arj_law_cause.proofs.confirm.{Granted.AreHad, Granted.IsHad, Granted.its_grants, Had.HadIn, Had.IsUsedSo, Had.PlanSo}
+use Rattle.arj_law_runs.specs.journal.Book.{book}
+use Rattle.arj_law_serial.proofs.Terms.{AreDistinct, acts, any_in, path_by, uids}
+use Rattle.arj_law_cause.proofs.confirm.{Granted.AreHad, Granted.IsHad, Granted.its_grants, Had.HadIn, Had.PlanSo}
 use Rattle.arj_law_cause.proofs.confirm.{Had.WasHad, Reached.Reached, Reached.reached_has}
 use Rattle.arj_law_cause.proofs.confirm.Placed as placed
-use Rattle.arj_law_cause.proofs.rows.Holders.{alike_to}
 
 -- ---- lists
 
@@ -400,14 +393,9 @@ module _ (hd : Header) (st : Start) (Z : Seen) (reached : Reached hd Z) (k : ℕ
           × ((g.top ≡ actor b.path) ⊎ (is_kept_top g.top t.coord ≡ true))
       its = least_counts Z.sent k t.coord (placed.place hd Z reached k n t here live) grants kept b found reasons.0 top x i
 
-      all_at : {A : Type 0} (Q : A → Type 0) (a : A) (xs : List A) → AllByRecursion Q xs → list.In a xs → Q a
-      all_at Q a [] every j = absurd j
-      all_at {A} Q a (y ∷ ys) every (inl same) = subst Q same every.0
-      all_at Q a (y ∷ ys) every (inr j) = all_at Q a ys every.1 j
-
       had : HadIn st Z.lines (let w = root_of b.path in w.num) (let g = its.0 in g.top) (let g = its.0 in g.x) (let g = its.0 in g.least)
-      had = all_at (IsHad (HadIn st Z.lines) (PlanSo st Z.lines) (let w = root_of b.path in w.num)) its.0
-          (root_at (root_of b.path) t.coord).grants
+      had = each_of (IsHad (HadIn st Z.lines) (PlanSo st Z.lines) (let w = root_of b.path in w.num))
+          (root_at (root_of b.path) t.coord).grants its.0
           (its_grants (HadIn st Z.lines) (PlanSo st Z.lines) (root_of b.path) t.coord roots) its.1
 
       of_kept : AreDistinct (acts Z.lines) → is_kept_top (let g = its.0 in g.top) t.coord ≡ true →

@@ -8,7 +8,6 @@ use Rattle.arj_journal.specs.ScriptForm.{HeaderInForm}
 use Rattle.arj_law_disk.specs.machine.State.{Below, state_for, target}
 use Rattle.arj_law_disk_view.specs.view.Pairs.{packed}
 use Rattle.arj_law_disk_view.specs.view.Plans.{plan_at, plan_by, used_at}
-use Rattle.arj_law_parts.specs.moves.Seen.{up}
 use Rattle.arj_law_serial.proofs.Terms.{object_line}
 use Rattle.arj_model.specs.Refusals.{incarnation}
 use Rattle.arj_promise.specs.Starts.{next_inc}

@@ -6,7 +6,6 @@ use Words.{acts as does, acts_own, again_all, again_own, begin_action, parent_of
 use Words.{holders, query_about, numbered, all_both}
 use Words.body
 use Words.input
-use Rattle.arj_law_parts.proofs.Terms.{halted}
 use Rattle.arj_law_parts.proofs.moves.Happens.{keeps_asked}
 use Rattle.arj_law_parts.proofs.steps.Still.{Still, coord_good, map_good, outs_of, says_still, taken_good}
 use Rattle.arj_law_parts.specs.moves.Seen.{AreQuiet, is_quiet_line, posted, said}

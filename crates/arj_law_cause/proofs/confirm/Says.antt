@@ -1,6 +1,6 @@
 -- What naming's answers to a Confirm and to a Bind say of the journal where they are made, and that they say so.
 use Rattle.arj_law_parts.proofs.Words
-use Words.{⊤, ◌≡◌, ◌∙◌, ◌==◌, ◌++◌, ℕ, Bool, true, false, if◌then◌else◌, List, [], ◌∷◌, Option, Some, None, refl, sym, ap, subst, is_some}
+use Words.{⊤, ◌≡◌, ◌∙◌, ◌==◌, ◌++◌, ℕ, true, false, if◌then◌else◌, List, [], ◌∷◌, Option, Some, None, refl, sym, ap, subst, is_some}
 use Words.{and_parts, inl, inr, list_all, option_map, eqb-true, uid_number, numbered, Served, Ask, ConfirmedReply, Head, Header, Line}
 use Words.{Message, Reply, Uid, actor, asks, asked_by, response}
 use Words.{is_listed, is_on, top_of, Grants, Marks, confirm, first_of_each, has_all, marked, other_grant, conflict_in, Disk, Effect}
@@ -10,13 +10,10 @@ use Words.{if_naming, with_naming, Naming, Named, Node, Post, Seen, at_number, A
 use Words.{◌⊎◌, ◌≤◌, ◌<◌, ⊎_elim, ObjectState, IsFormed, entry_state, held_at, stores_after}
 use Words.{⊤, entry, eq-eqb, last_uid, Row, Path, Mode, top_path, is_wanted, wanted, wants_lock}
 use Words.{holder_of, state_entry, refused_exclude, first_conflict}
-use Words.{Start, PreparedReply, Prep, Prepare, Ready, Already, InDoubt, Old, Look, is_prepared, prepare_answer, prepare_by}
+use Words.{Start}
 use Words.ask
-use Words.body
 use Words.confirmed
 use Words.mode
-use Words.prepared
-use Words.role
 use Rattle.arj_journal.specs.ScriptForm.{HeaderInForm}
 use Rattle.arj_protocol.specs.Named.{conflict_on}
 use Rattle.arj_model.specs.CausePends.{has_some}

@@ -1,5 +1,5 @@
 -- What lines of some kinds say is so: parts of their causes.
-use Rattle.std.specs.Prelude.{ℕ, ◌+◌, List, [], ◌∷◌, ◌++◌, Bool, true, false, ◌==◌, ◌&&◌, ◌||◌, not, if◌then◌else◌, nat_le}
+use Rattle.std.specs.Prelude.{ℕ, List, [], ◌∷◌, ◌++◌, Bool, true, false, ◌==◌, ◌&&◌, ◌||◌, not, if◌then◌else◌}
 use Rattle.std.specs.Prelude.{drop, take}
 use Rattle.std.specs.List.{list_all}
 use Rattle.arj_base.specs.declared.uid.Uid.{Uid}
@@ -17,9 +17,7 @@ use Rattle.arj_journal.specs.declared.body.Role.TheVariants as role
 use Rattle.arj_text.specs.Label.{name}
 use Rattle.arj_model.specs.Actions.{Act, act_in, acts}
 use Rattle.arj_model.specs.Calls.{surviving}
-use Rattle.arj_model.specs.CauseCommits.{writers}
 use Rattle.arj_model.specs.CauseEnds.{is_commit_of}
-use Rattle.arj_model.specs.CausePends.{changes}
 use Rattle.arj_model.specs.CauseSpans.{Here, answered, behind, commit_here, commits_so, holds_in}
 use Rattle.arj_model.specs.Last.{listed}
 use Rattle.arj_model.specs.Refusals.{holds_of, incarnation}
