@@ -305,8 +305,8 @@ met_nothing = refl
 met_so : failing_of is_met_abort aborted_conflict ≡ []
 met_so = refl
 
--- `aborted` with `old`: not so many writers, version zero, before any of them committed, no answer, no restart, one before the root entered,
--- one of another node, and where the root entered another object
+-- `aborted` with `old`: not so many writers, version zero, before any of them committed, no answer, no restart, one before the root
+-- entered, one of another node, and where the root entered another object
 old_many : failing_of is_old_abort (instead 111 (body.Aborted (l 76) (cause.Old 4 1 2)) aborted_old) ≡ 111 ∷ []
 old_many = refl
 

@@ -1,10 +1,12 @@
 -- What is seen where naming's node has stopped comes about without the stop too: then naming is as it was when it last worked, and all
 -- other nodes are as they are.
 use Rattle.arj_law_parts.proofs.Words
-use Words.{◌≡◌, ◌⊎◌, ◌≤◌, ◌<◌, ◌∙◌, ◌+◌, ◌==◌, ◌++◌, ℕ, Bool, true, false, if◌then◌else◌, List, [], ◌∷◌, length, Option, Some, None, refl, sym, ap}
+use Words.{◌≡◌, ◌⊎◌, ◌≤◌, ◌<◌, ◌∙◌, ◌+◌, ◌==◌, ◌++◌, ℕ, Bool, true, false, if◌then◌else◌, List, [], ◌∷◌, length, Option, Some, None, refl}
+use Words.{sym, ap}
 use Words.{subst, inl, inr, arith, append-nil, append_assoc, is_some, eqb-true, AllByRecursion, Body, Header, Line, Start, numbered}
 use Words.{Disk, Do, Effect, Say, Send, Stop, stopped, worked, Parts, Node, Seen, with_coord, begin_action, parent_of, is_serial, acts}
-use Words.{again_all, tick_outs, restart_outs, parts_in, node_by, see, world_from, IsFormed, at_place, insert_entry, label_cmp, Label, Coord}
+use Words.{again_all, tick_outs, restart_outs, parts_in, node_by, see, world_from, IsFormed, at_place, insert_entry, label_cmp, Label}
+use Words.{Coord}
 use Words.{Did}
 use Words.body
 use Rattle.arj_journal.specs.ScriptForm.{HeaderInForm}

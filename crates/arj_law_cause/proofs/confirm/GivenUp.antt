@@ -1,11 +1,16 @@
--- A commit that waits for its stores may be given up: then it goes on without those that haven't answered, and waits for naming; and nothing
+-- A commit that waits for its stores may be given up: then it goes on without those that haven't answered, and waits for naming; nothing
 -- else has changed.
 use Rattle.arj_law_parts.proofs.Words
-use Words.{⊤, ◌≡◌, ◌≤◌, ◌<◌, ◌∙◌, ◌+◌, ◌++◌, ◌==◌, ◌&&◌, not, ℕ, zero, suc, Bool, true, false, cond, if◌then◌else◌, List, [], ◌∷◌, length, map, flat_map, Option}
-use Words.{Some, None, refl, sym, ap, subst, arith, append-nil, append_assoc, is_some, slice_get, AllByRecursion, Body, Header, Label, Line, Uid}
-use Words.{actor, at_place, set_place, numbered, ObjectState, Used, Plan, Confirming, Preparing, Machine, plan_of, Committing, Coord, Doing, doing_of}
-use Words.{is_own, on_doing, commits_in, Did, Disk, Do, Effect, Intent, Say, Send, Parts, Node, Seen, with_coord, Branch, branch_of, branch_named}
-use Words.{number_of, branch_numbered, Input, acts as does, refusal_up, on_branch, give_up, give_up_doing, gives_up, gaveup_lines, mark_lines, moved_commit}
+use Words.{⊤, ◌≡◌, ◌≤◌, ◌<◌, ◌∙◌, ◌+◌, ◌++◌, ◌==◌, ◌&&◌, not, ℕ, zero, suc, Bool, true, false, cond, if◌then◌else◌, List, [], ◌∷◌, length}
+use Words.{map, flat_map, Option}
+use Words.{Some, None, refl, sym, ap, subst, arith, append-nil, append_assoc, is_some, slice_get, AllByRecursion, Body, Header, Label}
+use Words.{Line, Uid}
+use Words.{actor, at_place, set_place, numbered, ObjectState, Used, Plan, Confirming, Preparing, Machine, plan_of, Committing, Coord}
+use Words.{Doing, doing_of}
+use Words.{is_own, on_doing, commits_in, Did, Disk, Do, Effect, Intent, Say, Send, Parts, Node, Seen, with_coord, Branch, branch_of}
+use Words.{branch_named}
+use Words.{number_of, branch_numbered, Input, acts as does, refusal_up, on_branch, give_up, give_up_doing, gives_up, gaveup_lines}
+use Words.{mark_lines, moved_commit}
 use Words.{step_commit, asks_machine, says, say_for, Asks, CommitStep}
 use Words.body
 use Words.commit

@@ -1,14 +1,17 @@
 -- What roots were granted on entries, and what plans of commits under way use, through all that a coordinator does.
 use Rattle.arj_law_parts.proofs.Words
-use Words.{⊤, ◌≡◌, ◌⊎◌, ◌∙◌, ◌==◌, ◌&&◌, ◌++◌, nat_le, ℕ, Bool, true, false, cond, List, [], ◌∷◌, Option, Some, None, IfSome, arith, min, refl}
+use Words.{⊤, ◌≡◌, ◌⊎◌, ◌∙◌, ◌==◌, ◌&&◌, ◌++◌, nat_le, ℕ, Bool, true, false, cond, List, [], ◌∷◌, Option, Some, None, IfSome, arith, min}
+use Words.{refl}
 use Words.{ap, subst, sym, inl, inr, and_parts, eqb-true, list_any, AllByRecursion, Label, Path, Reply, Uid, uid_eq, uid_is, uids_of}
 use Words.{actor, top_of, granted_by, granted_with, is_grant_of, named_last, notes_grant, last_req, root_heard, root_lost, root_moved}
 use Words.{is_invoke_ask, keeps_after, has_changed, keeping_of, renewed, is_ended, spoils, given_up, Asked, waits_for_call}
 use Words.{CallEnd, Answered, Included, Conflict, Changed, Lost, CallStep, Steps, Moved, Used, Plan, Machine, Voting, Preparing, Confirming}
 use Words.{plan_of, CommitStep, Stays, Asks, begin_confirm, begin_prepare, begin_vote, stores_left, votes_left, servers_of, targets_of}
 use Words.{marks_store, marks_stores, with_number, with_states, without_number, Coord, new_coord, Doing, Now, Idle, Calling, Committing}
-use Words.{Root, Went, Said, Grant, no_root, root_at, on_root, on_doing, is_free, plan_for, with_keeping, with_went, with_said, same_went, same_said}
-use Words.{root_after, root_of, Intent, Input, doing_of, begin_action, Branch, Kind, is_nested, is_serial, branch_named, Effect, heard, acts, acked}
+use Words.{Root, Went, Said, Grant, no_root, root_at, on_root, on_doing, is_free, plan_for, with_keeping, with_went, with_said, same_went}
+use Words.{same_said}
+use Words.{root_after, root_of, Intent, Input, doing_of, begin_action, Branch, Kind, is_nested, is_serial, branch_named, Effect, heard}
+use Words.{acts, acked}
 use Words.{again_all, change_doing, ended, participants}
 use Words.bound
 use Words.calls

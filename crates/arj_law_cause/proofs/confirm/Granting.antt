@@ -1,6 +1,7 @@
 -- What roots were granted on entries stands in the journal, and what plans of commits use: at each node that is up, whatever nodes do.
 use Rattle.arj_law_parts.proofs.Words
-use Words.{⊤, ◌≡◌, ◌≤◌, ◌∙◌, ◌==◌, ◌+◌, ◌++◌, ◌&&◌, eqb-true, ℕ, Bool, true, false, if◌then◌else◌, List, [], ◌∷◌, Option, Some, None, IfSome, refl, sym}
+use Words.{⊤, ◌≡◌, ◌≤◌, ◌∙◌, ◌==◌, ◌+◌, ◌++◌, ◌&&◌, eqb-true, ℕ, Bool, true, false, if◌then◌else◌, List, [], ◌∷◌, Option, Some, None}
+use Words.{IfSome, refl, sym}
 use Words.{ap, subst, and_parts, Ask, Asked, Binding, Body, End, Head, Header, Kind, Label, Line, Message, Reply, Start}
 use Words.{Uid, actor, answers, entry, first_uid, numbered, top_of, frame_kind, is_serial, ask_at, ask_kind, reply_kind, next_ask}
 use Words.{next_node, waits_for_call, is_include, At, AtActivate, AtBind, AtInvoke, AtLoad, AtNote, Goal, Steps, Calling, Coord}

@@ -1,9 +1,12 @@
 -- What naming's answer to a Bind says of the journal where it is made: whose lock it grants stands there, in naming's incarnation.
 use Rattle.arj_law_parts.proofs.Words
-use Words.{⊤, ◌≡◌, ◌≤◌, ◌∙◌, ◌==◌, ◌+◌, ◌++◌, ℕ, Bool, true, false, cond, List, [], ◌∷◌, Option, Some, None, IfSome, refl, sym, ap, subst, is_some}
-use Words.{arith, option_map, eqb-true, eq-eqb, Ask, Binding, BoundReply, Head, Header, Line, Message, Path, Reply, Row, Start, Uid, asked_by}
+use Words.{⊤, ◌≡◌, ◌≤◌, ◌∙◌, ◌==◌, ◌+◌, ◌++◌, ℕ, Bool, true, false, cond, List, [], ◌∷◌, Option, Some, None, IfSome, refl, sym, ap, subst}
+use Words.{is_some}
+use Words.{arith, option_map, eqb-true, eq-eqb, Ask, Binding, BoundReply, Head, Header, Line, Message, Path, Reply, Row, Start, Uid}
+use Words.{asked_by}
 use Words.{asks, at_number, at_uid, entry, last_uid, response, row_for, top_of, top_path, tops_of, void, Disk, Effect, Entry, Send, Served}
-use Words.{Naming, Handled, Parts, Took, Void, if_naming, sends_answer, serve, served, with_naming, Grant, granted_by, is_over, listed_entry}
+use Words.{Naming, Handled, Parts, Took, Void, if_naming, sends_answer, serve, served, with_naming, Grant, granted_by, is_over}
+use Words.{listed_entry}
 use Words.{put_number, Node, rows_in_named}
 use Words.ask
 use Words.bound

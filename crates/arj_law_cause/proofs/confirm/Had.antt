@@ -56,8 +56,8 @@ had_in_more st ls ms root top x g h = record {
   of = λ distinct. ap (λ p. (let u = first_uid (uids p) in u.num)) (path_still ls ms distinct top h.there) ∙ h.of (distinct_still ls ms distinct);
 }
 
--- What the plan of an action's commit uses of an object: at a place before the commit was called a top of the action's root had a lock on its
--- entry, in the incarnation that the plan names.
+-- What the plan of an action's commit uses of an object: at a place before the commit was called a top of the action's root had a lock on
+-- its entry, in the incarnation that the plan names.
 pub record IsUsedSo (st : Start) (ls : List Line) (u : Uid) (w : Used) : Type 0 where
   pub first : List Line
   pub more : List Line

@@ -1,5 +1,5 @@
--- Wherever a commit that waits for naming names a grant of naming's present incarnation, or a later one, no store that it asked holds a state
--- above the one that it was sent.
+-- Wherever a commit that waits for naming names a grant of naming's present incarnation, or a later one, no store that it asked holds a
+-- state above the one that it was sent.
 use Rattle.arj_law_parts.proofs.Words
 use Words.{⊤, ◌≡◌, ◌∙◌, ℕ, true, List, Some, None, sym, ap, subst, option_map, is_some, Header, ObjectState, Uid, object}
 use Words.{held_at, Used}

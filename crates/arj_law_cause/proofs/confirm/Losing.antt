@@ -1,9 +1,11 @@
 -- What a store's answer to a Prepare says, where it refuses a state as too late: of which object that is, of which version, and that naming
 -- came up again since the root of the action that asks first had a lock on the object's entry.
 use Rattle.arj_law_parts.proofs.Words
-use Words.{⊤, ◌≡◌, ◌≤◌, ◌∙◌, ◌==◌, ◌++◌, ℕ, Bool, true, false, if◌then◌else◌, List, [], ◌∷◌, length, Option, Some, None, refl, sym, ap, subst}
+use Words.{⊤, ◌≡◌, ◌≤◌, ◌∙◌, ◌==◌, ◌++◌, ℕ, Bool, true, false, if◌then◌else◌, List, [], ◌∷◌, length, Option, Some, None, refl, sym, ap}
+use Words.{subst}
 use Words.{eqb-true, append_assoc, in_find, in_to, AllByRecursion, In, Ask, Disk, Do, Effect, Say, Send, Head, Header}
-use Words.{Line, Message, Node, ObjectState, Parts, Prep, PreparedReply, Prepare, Ready, Already, InDoubt, Old, Look, Reply, Seen, Start, Took, Void}
+use Words.{Line, Message, Node, ObjectState, Parts, Prep, PreparedReply, Prepare, Ready, Already, InDoubt, Old, Look, Reply, Seen, Start}
+use Words.{Took, Void}
 use Words.{Uid, Used, plan_of, actor, asks, asked_by, response, entry, first_uid, uid_eq, uid_is, uids_of, is_on}
 use Words.{handle_ask, is_prepared, prepare_answer, prepare_by, sends_answer, serve}
 use Words.ask
@@ -82,8 +84,8 @@ module _ (hd : Header) (form : HeaderInForm hd) (Z : Seen) (reached : Reached hd
 
   module _ (k : ℕ) (n : Node) (t : Parts) (here : Z.nodes k ≡ Some n) (live : n.live ≡ Some t) (a : Act) (began : In a (acts Z.lines)) where
     action : (b : Action) × In b (placed.begun hd Z reached k n t here live) × (act_of b ≡ a.uid)
-    action = let f = alike_from (placed.begun hd Z reached k n t here live) (acts Z.lines) (placed.alike hd Z reached k n t here live) a began in
-        (f.0, f.1, sym f.2)
+    action = let f = alike_from (placed.begun hd Z reached k n t here live) (acts Z.lines) (placed.alike hd Z reached k n t here live) a
+        began in (f.0, f.1, sym f.2)
 
     by_uid : path (acts Z.lines) a.label ≡ path_by (acts Z.lines) a.uid
     by_uid = label_path (acts Z.lines) distinct a.label a (found (acts Z.lines) distinct a began)
@@ -108,8 +110,8 @@ module _ (hd : Header) (form : HeaderInForm hd) (Z : Seen) (reached : Reached hd
     abbrev c : IsAtCommit Z a.uid
     c = olds.c hd form Z reached k d t here from m sent h states asking w v is settled.early a began its opened
 
-    goal : target (plan_at w.num (plan_of (let z = olds.c hd form Z reached k d t here from m sent h states asking w v is settled.early a began its
-        opened in z.machine))) k ≡ true
+    goal : target (plan_at w.num (plan_of (let z = olds.c hd form Z reached k d t here from m sent h states asking w v is settled.early a
+        began its opened in z.machine))) k ≡ true
     goal = olds.goal hd form Z reached k d t here from m sent h states asking w v is settled.early a began its opened
 
     abbrev used : List Used

@@ -1,15 +1,18 @@
--- Where a commit that waits for naming names a grant of naming's present incarnation, or a later one, what the top wrote is one version above
--- the last state; so no store refuses it as too late.
+-- Where a commit that waits for naming names a grant of naming's present incarnation, or a later one, what the top wrote is one version
+-- above the last state; so no store refuses it as too late.
 use Rattle.arj_law_parts.proofs.Words
-use Words.{[], ◌∷◌, ◌≡◌, ◌⊎◌, ◌≤◌, ◌<◌, ◌+◌, ◌*◌, ◌==◌, ℕ, Bool, true, false, List, Option, Some, None, is_some, refl, sym, ◌∙◌, ap, subst, inl}
+use Words.{[], ◌∷◌, ◌≡◌, ◌⊎◌, ◌≤◌, ◌<◌, ◌+◌, ◌*◌, ◌==◌, ℕ, Bool, true, false, List, Option, Some, None, is_some, refl, sym, ◌∙◌, ap}
+use Words.{subst, inl}
 use Words.{inr, arith, eqb-true, uid_is, in_find, in_to, ObjectState, Uid, object, uid_eq, Confirming, Used, changed_of}
 use Words.{Committing, Doing, doing_of, Naming, Parts, uid_number, Node, Branch, branch_of, Seen, Plan, AllByRecursion}
 use Words.list
 use Rattle.arj_law_serial.proofs.Terms
 use Terms.{Act, acts, Values, Action, KnowsRun, Core, Whole, World, Office, Packed, decided, last, undecided, last_known, packed}
-use Terms.{plan_by, SeesConfirming, confirming_of, Kinds, SeesCoord, SeesBoth, HasFewLabels, SeesDecided, SeesHeard, book, new_book, IsGiven}
+use Terms.{plan_by, SeesConfirming, confirming_of, Kinds, SeesCoord, SeesBoth, HasFewLabels, SeesDecided, SeesHeard, book, new_book}
+use Terms.{IsGiven}
 use Terms.{AreRight, its_acts, Guard, stay, Alive, Call, State, ConfirmTop, IsLast, IsSeenIn, Spot, world_at, BeginsAs, Fixed}
-use Terms.{view_of, case_of, SeesMemory, SeesUp, SeesDown, AreVotedAt, SeesNamingIn, SeesNaming, AreApart, AreBased, IsVotedOver, ArePlannedSo}
+use Terms.{view_of, case_of, SeesMemory, SeesUp, SeesDown, AreVotedAt, SeesNamingIn, SeesNaming, AreApart, AreBased, IsVotedOver}
+use Terms.{ArePlannedSo}
 use Terms.{ChangesCalled, IsPlannedSo, NodesAreThere, IsOrdered}
 use Terms.disk
 use Terms.machine as lock

@@ -1,7 +1,8 @@
 -- What a store's answer to a Prepare says, where it refuses a state as too late: of which object that is, that it holds a version above
 -- zero, and that the journal counts as many.
 use Rattle.arj_law_parts.proofs.Words
-use Words.{◌≡◌, ◌≤◌, ◌<◌, ◌∙◌, ◌+◌, ◌==◌, ◌&&◌, ◌||◌, not, ℕ, Bool, true, false, cond, if◌then◌else◌, List, [], ◌∷◌, Option, Some, None, refl}
+use Words.{◌≡◌, ◌≤◌, ◌<◌, ◌∙◌, ◌+◌, ◌==◌, ◌&&◌, ◌||◌, not, ℕ, Bool, true, false, cond, if◌then◌else◌, List, [], ◌∷◌, Option, Some, None}
+use Words.{refl}
 use Words.{sym, ap}
 use Words.{subst, inl, inr, ⊎_elim, arith, nat_tests, nat_lt, is_some, and_parts, eqb-true, option_map, unwrap_or, AllByRecursion, In}
 use Words.{uid_is, uid_eq}
@@ -37,7 +38,8 @@ use Rattle.arj_model.specs.Actions.{Act, acts, is_over}
 use Rattle.arj_model.specs.Last.{count_tops, object_line, writes_of}
 use Rattle.arj_law_cause.proofs.confirm.{Called.BasedCalled, Called.called_keep, Called.is_called, Joined.IsEarly, Joined.IsSeenSo}
 use Rattle.arj_law_cause.proofs.confirm.{Joined.seen_so}
-use Rattle.arj_law_cause.proofs.confirm.{Opened.IsAtCommit, Opened.IsLeft, Opened.at_commit, Opened.same_there, Reached.Reached, Reached.reached_has}
+use Rattle.arj_law_cause.proofs.confirm.{Opened.IsAtCommit, Opened.IsLeft, Opened.at_commit, Opened.same_there, Reached.Reached}
+use Rattle.arj_law_cause.proofs.confirm.{Reached.reached_has}
 use Rattle.arj_law_cause.proofs.confirm.{Versions.held_low, Versions.zero_is_one}
 use Rattle.arj_law_cause.proofs.votes.Written.{changed_version}
 

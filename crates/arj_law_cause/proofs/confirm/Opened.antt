@@ -1,6 +1,7 @@
 -- An open action of the journal whose commit was called is at that commit, at its coordinator.
 use Rattle.arj_law_parts.proofs.Words
-use Words.{◌≡◌, ◌⊎◌, ◌∙◌, ◌==◌, ◌&&◌, ◌||◌, not, ℕ, Bool, true, false, if◌then◌else◌, List, Option, Some, None, is_some, refl, sym, ap, subst, In}
+use Words.{◌≡◌, ◌⊎◌, ◌∙◌, ◌==◌, ◌&&◌, ◌||◌, not, ℕ, Bool, true, false, if◌then◌else◌, List, Option, Some, None, is_some, refl, sym, ap}
+use Words.{subst, In}
 use Words.{and_parts, eqb-true, in_to, is_on, Header, Node, Parts, Seen, Uid, uid_eq, uid_same, Branch, branch_of, Committing, Doing}
 use Words.{Machine, Plan, Preparing, Confirming, Now, Calling, Idle, doing_of, is_committing_now, is_own}
 use Rattle.arj_law_parts.proofs.moves.Happens.{keeps_asked}

@@ -177,7 +177,8 @@ module _ (hd : Header) (st : Start) (form : HeaderInForm hd) (before : List Line
       let z = ans.3 in let s = stands in
       label_path (acts z.made.before) (let w = its_sound z.made.before front_right in w.distinct) (let b = s.act in b.label) s.act
       (paths.found (acts z.made.before) (let w = its_sound z.made.before front_right in w.distinct) s.act there_then)
-      ∙ sym (path_still z.made.before z.made.after (subst (λ ls. AreDistinct (acts ls)) z.made.are (let w = its_sound M.seen.lines right in w.distinct))
+      ∙ sym (path_still z.made.before z.made.after
+      (subst (λ ls. AreDistinct (acts ls)) z.made.are (let w = its_sound M.seen.lines right in w.distinct))
       (let b = s.act in b.uid) (any_in (λ (y : Act). uid_eq y.uid (let b = s.act in b.uid)) s.act (acts z.made.before) there_then
       (uid_same (let b = s.act in b.uid))))
       ∙ ap (λ ls. path_by (acts ls) (let b = s.act in b.uid)) (sym z.made.are)

@@ -1,13 +1,19 @@
 -- As a commit is called each object of its plan has a grant that counts, of a top of its root, and names the least one of these.
 use Rattle.arj_law_parts.proofs.Words
-use Words.{⊤, ◌≡◌, ◌≢◌, ◌⊎◌, ◌≤◌, ◌∙◌, ◌==◌, ◌&&◌, ◌||◌, ◌++◌, not, nat_le, ℕ, Bool, true, false, cond, List, [], ◌∷◌, map, filter, min, Option, Some}
-use Words.{None, refl, sym, ap, subst, inl, inr, ⊎_elim, arith, nat_tests, and_parts, eqb-true, list_any, or_cases, is_some, in_filter, in_map}
-use Words.{AllByRecursion, Contains, In, in_from, in_to, uid_eq, uid_is, uid_same, is_on, first_uid, last_uid, uids_of, Kind, Label, Path, Uid}
+use Words.{⊤, ◌≡◌, ◌≢◌, ◌⊎◌, ◌≤◌, ◌∙◌, ◌==◌, ◌&&◌, ◌||◌, ◌++◌, not, nat_le, ℕ, Bool, true, false, cond, List, [], ◌∷◌, map, filter, min}
+use Words.{Option, Some}
+use Words.{None, refl, sym, ap, subst, inl, inr, ⊎_elim, arith, nat_tests, and_parts, eqb-true, list_any, or_cases, is_some, in_filter}
+use Words.{in_map}
+use Words.{AllByRecursion, Contains, In, in_from, in_to, uid_eq, uid_is, uid_same, is_on, first_uid, last_uid, uids_of, Kind, Label, Path}
+use Words.{Uid}
 use Words.{actor, top_of, Header, Node, Parts, Post, Seen, Start, Known as KnownOf, Used, Coord, Doing, Grant, Joined, Root, Said, counts}
 use Words.{counts_grant, is_called, is_constituent_branch, is_kept_top, is_retained, kept_of, least_grant, least_of, no_root, objects_in}
-use Words.{Plan, End, append-nil, commit_reasons, first_reason, has_open_child, refusal_up, refused_by, sibling_waits, waits_above, waits_below}
-use Words.{plan_for, retained_in, root_at, said_in, second_uid, survives, top_uses, used_of, joined_in, last_req, doing_of, is_committing_now}
-use Words.{Committing, Branch, branch_of, branch_named, is_committed, is_merged, root_of, is_own, number_set, is_nested, is_serial, is_constituent}
+use Words.{Plan, End, append-nil, commit_reasons, first_reason, has_open_child, refusal_up, refused_by, sibling_waits, waits_above}
+use Words.{waits_below}
+use Words.{plan_for, retained_in, root_at, said_in, second_uid, survives, top_uses, used_of, joined_in, last_req, doing_of}
+use Words.{is_committing_now}
+use Words.{Committing, Branch, branch_of, branch_named, is_committed, is_merged, root_of, is_own, number_set, is_nested, is_serial}
+use Words.{is_constituent}
 use Words.{is_eq, nat_cmp, Ordering, Less, Equal, Greater, match_ordering, binding_number, Naming}
 use Words.input
 use Words.kind
@@ -401,7 +407,8 @@ module _ (hd : Header) (st : Start) (Z : Seen) (reached : Reached hd Z) (k : ℕ
       of_kept : AreDistinct (acts Z.lines) → is_kept_top (let g = its.0 in g.top) t.coord ≡ true →
           first_uid (uids (path_by (acts Z.lines) (let g = its.0 in g.top))) ≡ first_uid (uids (path_by (acts Z.lines) (actor b.path)))
       of_kept distinct is =
-          let e = kept_branch Z.sent k t.coord (placed.place hd Z reached k n t here live) grants kept b found reasons.0 top (let g = its.0 in g.top) is in
+          let e = kept_branch Z.sent k t.coord (placed.place hd Z reached k n t here live) grants kept b found reasons.0 top
+          (let g = its.0 in g.top) is in
           let path = placed.path_at hd Z reached k n t here live (let g = its.0 in g.top) e.0 e.1 in
           ap first_uid path ∙ own_is (root_of (let q = e.0 in q.path)) (root_of b.path) t.coord.tree
           (placed.root_there hd Z reached k n t here live (let g = its.0 in g.top) e.0 e.1)

@@ -1,8 +1,10 @@
--- Where a store holds a state above the one that an open commit sends it, naming is in no incarnation any more in which a root's lock, as the
--- commit's plan names it, was granted.
+-- Where a store holds a state above the one that an open commit sends it, naming isn't any more in the incarnation in which the lock of the
+-- root, as the commit's plan names it, was granted.
 use Rattle.arj_law_parts.proofs.Words
-use Words.{◌≡◌, ◌⊎◌, ◌≤◌, ◌∙◌, ◌==◌, ◌+◌, ◌++◌, ℕ, Bool, true, false, if◌then◌else◌, List, [], ◌∷◌, Option, Some, None, refl, sym, ap, subst, inl, inr, arith, is_some}
-use Words.{eqb-true, Header, Line, Start, Uid, ObjectState, object, held_at, Used, Plan, Machine, Voting, Preparing, Confirming, plan_of, Committing}
+use Words.{◌≡◌, ◌⊎◌, ◌≤◌, ◌∙◌, ◌==◌, ◌+◌, ◌++◌, ℕ, Bool, true, false, if◌then◌else◌, List, [], ◌∷◌, Option, Some, None, refl, sym, ap}
+use Words.{subst, inl, inr, arith, is_some}
+use Words.{eqb-true, Header, Line, Start, Uid, ObjectState, object, held_at, Used, Plan, Machine, Voting, Preparing, Confirming, plan_of}
+use Words.{Committing}
 use Words.{Node, Parts, Seen, changed_of, find}
 use Rattle.arj_journal.specs.ScriptForm.{HeaderInForm}
 use Rattle.arj_law_disk.specs.machine.State.{Below, state_for, target}
@@ -13,7 +15,8 @@ use Rattle.arj_model.specs.Refusals.{incarnation}
 use Rattle.arj_promise.specs.Starts.{next_inc}
 use Rattle.arj_law_cause.specs.rows.Early.{IsEarly}
 use Rattle.arj_law_cause.proofs.confirm.{Awake.AreLeft, Awake.IsAwake, Awake.IsLife, Awake.awake, Awake.early_less, Awake.left_behind}
-use Rattle.arj_law_cause.proofs.confirm.{GivenUp.HasGoneOn, GivenUp.gone_on, Late.no_late, Opened.IsAtCommit, Opened.IsLeft, Reached.Reached}
+use Rattle.arj_law_cause.proofs.confirm.{GivenUp.HasGoneOn, GivenUp.gone_on, Late.no_late, Opened.IsAtCommit, Opened.IsLeft}
+use Rattle.arj_law_cause.proofs.confirm.{Reached.Reached}
 use Rattle.arj_law_cause.proofs.confirm.{Nexts.IsNoLater, Rising.RisesFrom, Rising.rises, Rising.rises_behind}
 
 node_is : {a b : Node} → Some a ≡ Some b → a ≡ b
@@ -137,7 +140,11 @@ module _ (hd : Header) (y : ℕ) (form : HeaderInForm hd) (line : is_some (objec
     where
       by : IsLife Z.start A.front A.node → IsNoLater A.node r.grant
       by (inl z) = inl (z.0, z.1, subst (λ i. i ≤ r.grant) z.2 low)
-      by (inr z) = inr (z.0, last (Z.start.incs 1) (let n = A.node in let d = n.disk in d.inc) r.grant (subst (λ b. (if b then Z.start.incs 1 + 1 else Z.start.incs 1 + 2) ≤ r.grant) z.1 since) z.2)
+      by (inr z) = inr (
+        z.0,
+        last (Z.start.incs 1) (let n = A.node in let d = n.disk in d.inc) r.grant
+            (subst (λ b. (if b then Z.start.incs 1 + 1 else Z.start.incs 1 + 2) ≤ r.grant) z.1 since) z.2,
+      )
         where
           last : (a i g : ℕ) → a + 2 ≤ g → i ≡ a + 1 → i + 1 ≤ g
           last a i g le is = omega (arith, le, is)

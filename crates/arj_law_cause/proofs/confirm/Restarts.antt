@@ -1,7 +1,8 @@
 -- Where a root has entered an entry, and no line says since it first did that naming's node is up again, the node is in the incarnation in
 -- which it did.
 use Rattle.arj_law_parts.proofs.Words
-use Words.{◌≡◌, ◌⊎◌, ◌≤◌, ◌∙◌, ◌+◌, ◌-◌, ◌==◌, ◌&&◌, ◌||◌, ◌++◌, ℕ, Bool, true, false, if◌then◌else◌, List, [], ◌∷◌, take, Option, Some, None}
+use Words.{◌≡◌, ◌⊎◌, ◌≤◌, ◌∙◌, ◌+◌, ◌-◌, ◌==◌, ◌&&◌, ◌||◌, ◌++◌, ℕ, Bool, true, false, if◌then◌else◌, List, [], ◌∷◌, take, Option, Some}
+use Words.{None}
 use Words.{refl, sym, ap, subst, inl, inr, arith, nat_tests, and_parts, eqb-true, find, list_any, AllByRecursion, In, Body, Line, Start}
 use Words.body
 use Rattle.std.specs.Prelude.{drop}
@@ -113,17 +114,20 @@ same_life st lines x root i entered off =
   where
     found : (e : Placed Entering) × In e (enterings lines) × (((e.it.x == x) && (is_root e.it.root root
         && (incarnation st (take e.at lines) 1 == i))) ≡ true)
-    found = one_passes (λ e. (e.it.x == x) && (is_root e.it.root root && (incarnation st (take e.at lines) 1 == i))) (enterings lines) entered
+    found = one_passes (λ e. (e.it.x == x) && (is_root e.it.root root && (incarnation st (take e.at lines) 1 == i))) (enterings lines)
+        entered
 
     e : Placed Entering
     e = found.0
 
     object : ((let y = e.it in y.x) == x) ≡ true
-    object = (and_parts ((let y = e.it in y.x) == x) (is_root (let y = e.it in y.root) root && (incarnation st (take e.at lines) 1 == i)) found.2).0
+    object = (and_parts ((let y = e.it in y.x) == x)
+        (is_root (let y = e.it in y.root) root && (incarnation st (take e.at lines) 1 == i)) found.2).0
 
     parts : (is_root (let y = e.it in y.root) root ≡ true) × ((incarnation st (take e.at lines) 1 == i) ≡ true)
     parts = and_parts (is_root (let y = e.it in y.root) root) (incarnation st (take e.at lines) 1 == i)
-        (and_parts ((let y = e.it in y.x) == x) (is_root (let y = e.it in y.root) root && (incarnation st (take e.at lines) 1 == i)) found.2).1
+        (and_parts ((let y = e.it in y.x) == x)
+        (is_root (let y = e.it in y.root) root && (incarnation st (take e.at lines) 1 == i)) found.2).1
 
     first : (f : Placed Entering) × (find (λ z. (z.it.x == x) && is_root z.it.root root) (enterings lines) ≡ Some f) × (f.at ≤ e.at)
     first = first_low (λ z. (z.it.x == x) && is_root z.it.root root) [] 0 lines e found.1 (λ j. object j && parts.0 j)

@@ -1,8 +1,11 @@
 -- The incarnations that lines say of naming's node rise.
 use Rattle.arj_law_parts.proofs.Words
-use Words.{⊤, ◌≡◌, ◌≤◌, ◌∙◌, ◌+◌, ◌==◌, ◌&&◌, ◌++◌, ℕ, Bool, true, false, cond, if◌then◌else◌, List, [], ◌∷◌, Some, None, refl, sym, ap, subst, arith, map}
-use Words.{eqb-true, and_parts, list_all, Body, Header, Line, Seen, Disk, Do, Effect, Say, Send, stopped, worked, Parts, Handled, Void, handle, with_coord}
-use Words.{acts as does, acts_own, again_all, again_own, begin_action, parent_of, parts_in, restart_outs, tick_outs, tolds_again, tolds_again_own}
+use Words.{⊤, ◌≡◌, ◌≤◌, ◌∙◌, ◌+◌, ◌==◌, ◌&&◌, ◌++◌, ℕ, Bool, true, false, cond, if◌then◌else◌, List, [], ◌∷◌, Some, None, refl, sym, ap}
+use Words.{subst, arith, map}
+use Words.{eqb-true, and_parts, list_all, Body, Header, Line, Seen, Disk, Do, Effect, Say, Send, stopped, worked, Parts, Handled, Void}
+use Words.{handle, with_coord}
+use Words.{acts as does, acts_own, again_all, again_own, begin_action, parent_of, parts_in, restart_outs, tick_outs, tolds_again}
+use Words.{tolds_again_own}
 use Words.{holders, query_about, numbered, all_both}
 use Words.body
 use Words.input

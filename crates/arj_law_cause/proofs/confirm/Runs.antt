@@ -414,15 +414,18 @@ changed_cause hd st h (body.Aborted l (cause.Changed n d)) header starts its so 
 changed_cause hd st h b header starts its so = absurd (cc its)
 
 pub listed_row : RowHolds is_listed_abort
-listed_row hd r form = rows_so hd r.start (IsSo hd r.start) has_cause (λ h. is_listed_abort) (listed_cause hd r.start) (journal_by hd r) (each_line hd r form)
+listed_row hd r form = rows_so hd r.start (IsSo hd r.start) has_cause (λ h. is_listed_abort) (listed_cause hd r.start) (journal_by hd r)
+    (each_line hd r form)
     (FramesStep hd) (run_events hd r) (frames_are_caused hd r form)
 
 pub bare_row : RowHolds is_bare_abort
-bare_row hd r form = rows_so hd r.start (IsSo hd r.start) has_cause (λ h. is_bare_abort) (bare_cause hd r.start) (journal_by hd r) (each_line hd r form)
+bare_row hd r form = rows_so hd r.start (IsSo hd r.start) has_cause (λ h. is_bare_abort) (bare_cause hd r.start) (journal_by hd r)
+    (each_line hd r form)
     (FramesStep hd) (run_events hd r) (frames_are_caused hd r form)
 
 pub met_row : RowHolds is_met_abort
-met_row hd r form = rows_so hd r.start (IsSo hd r.start) has_cause (λ h. is_met_abort) (met_cause hd r.start) (journal_by hd r) (each_line hd r form)
+met_row hd r form = rows_so hd r.start (IsSo hd r.start) has_cause (λ h. is_met_abort) (met_cause hd r.start) (journal_by hd r)
+    (each_line hd r form)
     (FramesStep hd) (run_events hd r) (frames_are_caused hd r form)
 
 -- each that a server, or naming, refused since something changed has this much of its cause

@@ -4,7 +4,8 @@ use Words.{⊤, ◌≡◌, ◌∙◌, ◌==◌, ◌++◌, ℕ, true, false, if�
 use Words.{and_parts, inl, inr, list_all, option_map, eqb-true, uid_number, numbered, Served, Ask, ConfirmedReply, Head, Header, Line}
 use Words.{Message, Reply, Uid, actor, asks, asked_by, response}
 use Words.{is_listed, is_on, top_of, Grants, Marks, confirm, first_of_each, has_all, marked, other_grant, conflict_in, Disk, Effect}
-use Words.{Do, Say, Send, entry_of, listed_entry, is_over, same_nodes, Handled, Parts, Took, Void, handle, handle_ask, is_meant, serve, served}
+use Words.{Do, Say, Send, entry_of, listed_entry, is_over, same_nodes, Handled, Parts, Took, Void, handle, handle_ask, is_meant, serve}
+use Words.{served}
 use Words.{sends_answer}
 use Words.{if_naming, with_naming, Naming, Named, Node, Post, Seen, at_number, AllByRecursion, In}
 use Words.{◌⊎◌, ◌≤◌, ◌<◌, ⊎_elim, ObjectState, IsFormed, entry_state, held_at, stores_after}

@@ -4,7 +4,8 @@ use Words.{⊤, ◌≡◌, ◌++◌, ◌&&◌, ◌||◌, not, ℕ, Bool, true, f
 use Words.{AllByRecursion, and_parts, list_all, flat_map}
 use Words.{Ask, Asked, Body, Cause, End, Head, Header, Kind, Label, Message, ObjectState, Path, Uid, asks, object, Reply, actor, answers}
 use Words.{asked_by, last_end, response, heard}
-use Words.{Coord, Disk, Do, Effect, InDoubt, Intent, Pair, RemoveIntent, Look, Old, Already, Prep, Prepare, Ready, PutInc, PutIntent, Say, Send}
+use Words.{Coord, Disk, Do, Effect, InDoubt, Intent, Pair, RemoveIntent, Look, Old, Already, Prep, Prepare, Ready, PutInc, PutIntent, Say}
+use Words.{Send}
 use Words.{held_at, holder_of, is_prepared, prepare_answer, acked, answer_query, tell, tell_all, Named, Naming, Handled, Parts, Took, Void}
 use Words.{ack_told, by_reply, confirm, end_states, handle, handle_answer, handle_ask, handle_ends, handle_other, holders, if_naming}
 use Words.{is_earlier, load_by, load_held, naming_told, prepare_by, query_about, sends_answer, serve, store_told, with_coord, with_naming}
@@ -15,7 +16,8 @@ use Words.{Committing, Doing, Idle, Now, plan_of, tick_outs, tolds_again, Served
 use Words.{recovered_records, back_lines, restart_outs, prepared_actions, uid_set}
 use Words.{abort_action, aborts_with, all_aborted, commit_action, commit_open, commit_top, commits_in, decide, decided_told, end_line}
 use Words.{ended, ends_with, gaveup_lines, give_up, give_up_doing, gives_up, has_record, heard_by, heard_call, heard_doing, heard_none}
-use Words.{heard_now, last_req, mark_lines, moved_commit, next_node, nodes_given_up, open_below, participants, plan_for, record_work, root_at}
+use Words.{heard_now, last_req, mark_lines, moved_commit, next_node, nodes_given_up, open_below, participants, plan_for, record_work}
+use Words.{root_at}
 use Words.{root_of, say_for, says, step_call, step_commit, tolds_of, tolds_by, tolds_of_branch, branch_named, on_branch}
 use Words.{waits_for_call, waits_for_commit, CallStep, Ended, On, Steps, Aborts, Asks, CommitStep, Decides, Machine, Marked, Plan, Stays}
 use Words.{doing_of, Branch, Did, Input, acts, give_up_call, call, include}
