@@ -2,8 +2,13 @@ pub mod Cuts
 pub mod States
 pub mod Pasts
 pub mod Unnamed
+pub mod Nameless
 pub mod Rests
 pub mod Counts
 pub mod Crashes
 pub mod Listed
 pub mod Items
+pub mod Grammar
+pub mod Gathered
+pub mod Resting
+pub mod Cores

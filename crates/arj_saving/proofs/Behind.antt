@@ -1,5 +1,5 @@
 -- What is said behind a script that was run.
-use Rattle.std.proofs.Common.{◌≡◌, inl, inr, ℕ, List, [], ◌∷◌, Some, refl, sym, subst}
+use Rattle.std.proofs.Common.{◌≡◌, ◌≢◌, inl, inr, ℕ, List, [], ◌∷◌, Some, refl, sym, subst}
 use Rattle.std.specs.Prelude.{Result, Ok, Err, IfOk, IfErr}
 use Rattle.std.proofs.lemmas.List.{append-nil}
 use Rattle.arj_disk.specs.declared.disk.Disk as disk
@@ -12,7 +12,7 @@ use Rattle.arj_loop.specs.declared.machine.Machine.{Ghosts}
 use Rattle.arj_saving.specs.Comes.{FilesAre, SaysBehind, SaysFiles}
 use Rattle.arj_saving.specs.Gathered.{AreFilesOf, HaveBeenRead, node_files}
 use Rattle.arj_saving.specs.Saved.{HasImage, HasUp, SaysImage, SaysLast, StopsSoFar, header_of, image_of}
-use Rattle.arj_saving.specs.Stops.{ChangedBy, ComesSoFar, HasCrashed, MeetsLimit, Moment, moment}
+use Rattle.arj_saving.specs.Stops.{ChangedBy, ComesSoFar, HasCrashed, MeetsLimit, Moment, moment, up_nodes}
 use Rattle.arj_saving.specs.declared.imaging.Silence.{Silence}
 use Rattle.arj_saving.specs.declared.imaging.Silence.TheVariants as silence
 use Rattle.arj_saving.specs.declared.saving.Said.{Said}
@@ -90,23 +90,36 @@ module _ {D M : Type 0} (m : Ghosts M D) (d : disk.Ghosts D) where
 
     -- the nodes were stopped
     pub behind_files : (then : Moment D M) → HasCrashed m ups before then → (header : Header) → header ≡ head → (now : Held D M) →
-        now.machine ≡ Some then.machine → (r : Result Said Silence) → FilesAre m d header then now r → SaysBehind m d given first now r
-    behind_files then a header is now machine (Ok said) f = inl (record {
+        now.machine ≡ Some then.machine → (r : Result Said Silence) → (r ≢ Err silence.Memory → up_nodes then.journal header.nodes ≡ []) →
+        FilesAre m d header then now r → SaysBehind m d given first now r
+    behind_files then a header is now machine (Ok said) down f = inl (record {
       then = then;
-      run = record { before = before; ups = ups; up = u; crashed = a };
+      run = record {
+        before = before;
+        ups = ups;
+        up = u;
+        crashed = a;
+        down = subst (λ (h : Header). up_nodes then.journal h.nodes ≡ []) is (down (λ e. cc e));
+      };
       machine = machine;
       image = f.image;
       has = subst (λ h. HasImage m d h then now.rack f.image) is f.has;
       says = f.says;
     })
-    behind_files then a header is now machine (Err silence.Read) f = f
-    behind_files then a header is now machine (Err silence.Disk) f = record {
+    behind_files then a header is now machine (Err silence.Read) down f = f
+    behind_files then a header is now machine (Err silence.Disk) down f = record {
       then = then;
-      run = record { before = before; ups = ups; up = u; crashed = a };
+      run = record {
+        before = before;
+        ups = ups;
+        up = u;
+        crashed = a;
+        down = subst (λ (h : Header). up_nodes then.journal h.nodes ≡ []) is (down (λ e. cc e));
+      };
       machine = machine;
       journal = f.2;
       read = subst (λ (h : Header). HaveBeenRead d h.nodes then.rack now.rack) is f.0;
       stopped = f.1;
     }
-    behind_files then a header is now machine (Err silence.Memory) f =
+    behind_files then a header is now machine (Err silence.Memory) down f =
         behind_memory then.rack now.rack (wants_all m ups before then a) (subst (λ (h : Header). HaveBeenRead d h.nodes then.rack now.rack) is f)

@@ -1,5 +1,5 @@
 -- How many lines an image has.
-use Rattle.std.proofs.Common.{◌≡◌, ◌≤◌, ◌<◌, ◌⊎◌, inl, inr, ℕ, ◌+◌, [], ◌∷◌, length, length-append, map, Bool, true, false, arith}
+use Rattle.std.proofs.Common.{◌≡◌, ◌≤◌, ◌<◌, ◌⊎◌, inl, inr, ℕ, ◌+◌, List, [], ◌∷◌, refl, length, length-append, map, Bool, true, false, arith}
 use Rattle.std.specs.Prelude.{MatchBool}
 use Rattle.std.proofs.lemmas.List.{length-map}
 use Rattle.arj_image.specs.Grammar.{Counts, Files, Has, Journal, Object, Says}
@@ -7,6 +7,11 @@ use Rattle.arj_image.specs.Written.{counted_forms, format_forms, head_forms, ima
 use Rattle.arj_image.specs.declared.image.Image.{Image}
 use Rattle.arj_image.specs.declared.limits.TheConstants.{FILE_LINES, IMAGE_LINES}
 use Rattle.arj_saving.specs.Saved.{IsLong, IsShort}
+
+-- a list without length has no items
+pub no_items : {A : Type 0} (xs : List A) → length xs ≡ 0 → xs ≡ []
+no_items [] none = refl
+no_items (x ∷ xs) none = absurd (omega (arith, none))
 
 -- the objects, the journal's lines and the files, and the others
 pub count_forms : (i : Image) →

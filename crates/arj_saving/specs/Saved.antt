@@ -45,12 +45,13 @@ pub record HasUp {D M : Type 0} (m : Ghosts M D) (given : Arrived) (first : List
   pub script : RanScript m given first now
   pub ups_are : ups ≡ up_nodes now.journal (let h = header_of m given first now script in h.nodes)
 
--- The whole script was run, and behind it all nodes that were up were crashed.
+-- The whole script was run, and behind it all nodes that were up were crashed: none is up any more.
 pub record AllStopped {D M : Type 0} (m : Ghosts M D) (given : Arrived) (first : List D) (now : Moment D M) : Type 0 where
   pub before : Moment D M
   pub ups : List ℕ
   pub up : HasUp m given first before ups
   pub crashed : HasCrashed m ups before now
+  pub down : up_nodes now.journal (let u = up in let h = header_of m given first before u.script in h.nodes) ≡ []
 
 -- the header
 abbrev pub stopped_header : {D M : Type 0} (m : Ghosts M D) (given : Arrived) (first : List D) (now : Moment D M) →

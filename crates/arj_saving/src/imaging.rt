@@ -1,5 +1,5 @@
 // The command: a script is run, its nodes are stopped, and their image is written.
-ghost use Rattle.std.specs.Prelude.{◌≡◌, ◌≢◌, ◌≤◌, ◌++◌, ◌∷◌, [], List, Some, IfErr, IfOk, MatchOption};
+ghost use Rattle.std.specs.Prelude.{◌≡◌, ◌≢◌, ◌≤◌, ◌++◌, ◌∷◌, [], Err, List, Some, IfErr, IfOk, MatchOption};
 ghost use Rattle.arj_base.specs.Count.{Rose};
 ghost use Rattle.arj_journal.specs.declared.body.Line.{Line as line_type};
 ghost use Rattle.arj_loop.specs.Input.{Arrived, Came, source_view};
@@ -9,11 +9,11 @@ ghost use Rattle.arj_nodes.specs.AllNodes.{AreFresh};
 ghost use Rattle.arj_nodes.specs.AsMachine.{all_nodes};
 ghost use Rattle.arj_saving.specs.Comes.{ComesFrom, ComesOf, FilesAre, HasScript, LeadsTo};
 ghost use Rattle.arj_saving.specs.Saved.{Saves, SaysLast};
-ghost use Rattle.arj_saving.specs.Stops.{moment};
+ghost use Rattle.arj_saving.specs.Stops.{moment, up_nodes as nodes_up};
 
 use crate::gathering::files_of;
 use crate::saving::{Said, say_image};
-use crate::stopping::{Stop, crash_all, up_nodes};
+use crate::stopping::{Stop, crash_all, find_down, up_nodes};
 use arj_base::Bytes;
 use arj_core::Core;
 use arj_disk::{Disk, DiskFault, Rack};
@@ -88,8 +88,8 @@ fn steps_of<D: Disk, M: Machine<D>>(machine: &M) -> u32
     machine.stepped()
 }
 
-// Reads the files of nodes that were stopped, and says their image.
-fn say_files<D: Disk, C: Core + Drop>(
+// Reads the files of nodes that are down, and says their image.
+fn say_down<D: Disk, C: Core + Drop>(
     alloc: Global,
     nodes: &AllNodes<C>,
     rack: &mut Rack<D>,
@@ -106,6 +106,23 @@ fn say_files<D: Disk, C: Core + Drop>(
         },
         Err(DiskFault::Stopped) => Err(Silence::Disk),
         Err(DiskFault::Memory) => Err(Silence::Memory),
+    }
+}
+
+// Says the image of nodes that were stopped, where none is up.
+fn say_files<D: Disk, C: Core + Drop>(
+    alloc: Global,
+    nodes: &AllNodes<C>,
+    rack: &mut Rack<D>,
+    journal: &mut Lines,
+) -> Result<Said, Silence>
+    ensures files { FilesAre (all_nodes C.Core D.Disk) D.Disk nodes.now.world.header (moment rack.old nodes.now journal.old) (held_by rack.new (Some nodes.now) journal.new) result }
+    ensures down { result ≢ Err Silence.Memory → nodes_up journal.old nodes.now.world.header.nodes ≡ [] }
+{
+    let header = nodes.header();
+    match find_down(alloc, header.nodes, journal.as_slice()) {
+        Ok(()) => say_down(alloc, nodes, rack, journal),
+        Err(_) => Err(Silence::Memory),
     }
 }
 

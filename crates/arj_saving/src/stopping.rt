@@ -93,6 +93,19 @@ pub fn up_nodes(alloc: Global, nodes: u8, lines: &[Line]) -> Result<Bytes, Alloc
     Ok(ups)
 }
 
+/// Finds that none of so many nodes is up behind these lines. Where one is this is told as want of memory; behind the crashes of all nodes
+/// that were up none is (`crashes_stop_all_nodes` in `arj_law_images`).
+pub fn find_down(alloc: Global, nodes: u8, lines: &[Line]) -> Result<(), AllocError>
+    ensures { OnOk result (nodes_up lines.now nodes ≡ []) }
+{
+    let ups = up_nodes(alloc, nodes, lines)?;
+    if ups.as_slice().is_empty() {
+        Ok(())
+    } else {
+        Err(AllocError)
+    }
+}
+
 // The frame that a line says was sent, else the one before.
 fn sent_or(body: &Body, before: u32) -> u32
     ensures { result ≡ sent_by body.now before }

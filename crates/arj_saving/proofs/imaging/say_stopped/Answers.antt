@@ -52,7 +52,7 @@ returns-in-Ok-crash_all g c given first s =
     let then = moment c.crash_all.new.rack c.crash_all.new.machine c.crash_all.new.journal in
     behind_files (all_nodes g.C.Core g.D.Disk) g.D.Disk given first before ups (has_up g.C.Core g.D.Disk given first before s ups ups_are) then c.in-Ok-crash_all.ensures.crashed
     c.crash_all.new.machine.world.header (crashed_header g.C.Core g.D.Disk given first before s ups then c.in-Ok-crash_all.ensures.crashed)
-    (held_by c.say_files.new.rack (Some c.crash_all.new.machine) c.say_files.new.journal) refl c.say_files.result c.say_files.ensures
+    (held_by c.say_files.new.rack (Some c.crash_all.new.machine) c.say_files.new.journal) refl c.say_files.result c.say_files.ensures.down c.say_files.ensures.files
 
 pub returns-in-Err-Limit : goal.returns-in-Err-Limit
 returns-in-Err-Limit g c given first s =
