@@ -16,7 +16,7 @@ use Rattle.arj_journal.specs.declared.event.FrameNo.TheVariants.{Number}
 use Rattle.arj_journal.specs.declared.header.Header.{Header}
 use Rattle.arj_model.specs.Past.{Past, nothing_yet}
 use Rattle.arj_law_cause.specs.rounds.Alone.{AloneStep}
-use Rattle.arj_law_cause.specs.rounds.Fits.{FewFit}
+use Rattle.arj_law_cause.specs.rounds.Fits.{AddedFit, LightFit}
 use Rattle.arj_law_cause.specs.rounds.Quiesces.{IsWhole, QuiescesStep}
 use Rattle.arj_law_cause.specs.rounds.Sends.{SendsStep}
 use Rattle.arj_text.specs.Label.{name}
@@ -195,14 +195,63 @@ greeted = end_from nothing_yet ((event.Crash 1, body.Halted 1 ∷ [])
 hello_more : SendsStep two_nodes greeted (event.Deliver (Number 1)) (body.Got 1 ∷ sent_from 1 1) → ⊥
 hello_more s = let no_way : 2 ≤ 1 = s in absurd (omega (arith, no_way))
 
+-- a tick no eighth for one action, a restart no fifth, and a tick none where no action began
+tick_more : SendsStep two_nodes (end_from nothing_yet (begins ∷ [])) (event.Tick 1) (sent_from 0 8) → ⊥
+tick_more s = let no_way : 8 ≤ 7 = s in absurd (omega (arith, no_way))
+
+tick_seven : SendsStep two_nodes (end_from nothing_yet (begins ∷ [])) (event.Tick 1) (sent_from 0 7)
+tick_seven = omega arith
+
+restart_more : SendsStep two_nodes (end_from nothing_yet (begins ∷ (event.Crash 2, body.Halted 2 ∷ []) ∷ [])) (event.Restart 2)
+    (body.Up 2 2 ∷ sent_from 0 5) → ⊥
+restart_more s = let no_way : 5 ≤ 4 = s in absurd (omega (arith, no_way))
+
+tick_none : SendsStep two_nodes nothing_yet (event.Tick 1) (sent_from 0 1) → ⊥
+tick_none s = let no_way : 1 ≤ 0 = s in absurd (omega (arith, no_way))
+
+-- nor do a settle and a quiesce where nothing is open
+settle_none : SendsStep two_nodes nothing_yet event.Settle (sent_from 0 1) → ⊥
+settle_none s = let no_way : 1 ≤ 0 = s in absurd (omega (arith, no_way))
+
+quiesce_none : SendsStep two_nodes nothing_yet event.Quiesce (sent_from 0 1 ++ body.Quiet true ∷ []) → ⊥
+quiesce_none s = let no_way : 1 ≤ 0 = s in absurd (omega (arith, no_way))
+
+-- a settle no fifth for an open frame
+abbrev opened : Past
+opened = end_from nothing_yet ((event.Junk 1 [], body.Sent 1 0 1 frame.Junk ∷ []) ∷ [])
+
+settle_more : SendsStep two_nodes opened event.Settle (body.Void 1 ∷ sent_from 1 5) → ⊥
+settle_more s = let no_way : 6 ≤ 5 = s in absurd (omega (arith, no_way))
+
+settle_four : SendsStep two_nodes opened event.Settle (body.Void 1 ∷ sent_from 1 4)
+settle_four = omega arith
+
+-- and none for one that was delivered
+settle_shut : SendsStep two_nodes (end_from nothing_yet ((event.Junk 1 [], body.Sent 1 0 1 frame.Junk ∷ [])
+    ∷ (event.Deliver (Number 1), body.Void 1 ∷ []) ∷ [])) event.Settle (sent_from 1 1) → ⊥
+settle_shut s = let no_way : 2 ≤ 1 = s in absurd (omega (arith, no_way))
+
+-- for an action at work a settle sends no twenty-first, and a quiesce no fifty-ninth
+settle_at_work : SendsStep two_nodes (end_from nothing_yet (begins ∷ [])) event.Settle (sent_from 0 21) → ⊥
+settle_at_work s = let no_way : 21 ≤ 20 = s in absurd (omega (arith, no_way))
+
+quiesce_more : SendsStep two_nodes (end_from nothing_yet (begins ∷ [])) event.Quiesce (sent_from 0 59 ++ body.Quiet false ∷ []) → ⊥
+quiesce_more s = let no_way : 59 ≤ 58 = s in absurd (omega (arith, no_way))
+
 -- ---- the limit of frames
 
 -- Few events don't meet it, where none of them is a tick, a restart, a settle or a quiesce.
-limit_early : FewFit (event.Begin (l 65) 1 ∷ event.Commit (l 65) ∷ [])
+limit_early : LightFit (event.Begin (l 65) 1 ∷ event.Commit (l 65) ∷ [])
     (lines_of (begins ∷ (event.Commit (l 65), body.Committing (l 65) ∷ body.Limit which.Frames ∷ []) ∷ [])) → ⊥
 limit_early f = let no_way : true ≡ false = f refl (omega arith) in absurd (cc no_way)
 
 -- Of a tick that isn't said.
-tick_free : FewFit (event.Begin (l 65) 1 ∷ event.Tick 1 ∷ [])
+tick_free : LightFit (event.Begin (l 65) 1 ∷ event.Tick 1 ∷ [])
     (lines_of (begins ∷ (event.Tick 1, body.Limit which.Frames ∷ []) ∷ []))
 tick_free light few = absurd (cc light)
+
+-- Nor do events of any kind that add few: a tick, a restart, a settle and a quiesce among them.
+limit_added : AddedFit two_nodes (event.Begin (l 65) 1 ∷ event.Crash 2 ∷ event.Restart 2 ∷ event.Tick 1 ∷ event.Settle ∷ event.Quiesce ∷ [])
+    (lines_of (begins ∷ (event.Crash 2, body.Halted 2 ∷ []) ∷ (event.Restart 2, body.Up 2 2 ∷ []) ∷ (event.Tick 1, [])
+    ∷ (event.Settle, []) ∷ (event.Quiesce, body.Limit which.Frames ∷ []) ∷ [])) → ⊥
+limit_added f = let no_way : true ≡ false = f (omega arith) in absurd (cc no_way)

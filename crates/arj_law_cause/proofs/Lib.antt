@@ -12,4 +12,5 @@ pub mod bindings
 pub mod confirm
 pub mod votes
 pub mod sending
+pub mod leading
 pub mod stores

@@ -39,15 +39,18 @@ pub fn asked_alone_is_answered()
 /// it: one by which an action calls or includes, or which hands over bytes; to each other node four by which an action commits, two by
 /// which it is given up, and one for each open action that an abort ends. A delivery sends one frame where it is of a call, an include, or
 /// to another node a request of a commit, an end or a question; to each other node one of an acknowledgement, two of an answer to a Prepare
-/// or a Confirm, one for each action that began of a hello, and three of any other. None is sent by which an action begins, a frame is
-/// lost, a node crashes, a stop is armed, or an object is shown. It does nothing when it runs.
+/// or a Confirm, one for each action that began of a hello, and three of any other. A tick sends to each other node seven for each action
+/// that began, a restart three for each and a hello. A settle sends what open frames lead to, and so many for each action that began, for
+/// what it has to do still; a quiesce as many, and what its ticks send, with what that leads to. None is sent by which an action begins, a
+/// frame is lost, a node crashes, a stop is armed, or an object is shown. It does nothing when it runs.
 pub fn events_send_few_frames()
     ensures runs { RunsSendFew }
 {}
 
-/// In every run in form, wherever it begins and wherever disks stop, few events meet no limit of frames, where none of them is a tick, a
-/// restart, a settle or a quiesce: so many as are, with the lines that say of an action that it was aborted as asked, 1,666 at most. It
-/// does nothing when it runs.
+/// In every run in form, wherever it begins and wherever disks stop, few events meet no limit of frames. Where none of them is a tick, a
+/// restart, a settle or a quiesce: so many as are, with the lines that say of an action that it was aborted as asked, 1,666 at most. And of
+/// whichever kinds they are, where what they add at most is fewer than a run may send: each counts with what it sends and all that this
+/// leads to, by the nodes and by how many actions begin in the run. It does nothing when it runs.
 pub fn few_events_meet_no_limit()
     ensures runs { RunsFit }
 {}

@@ -12,7 +12,7 @@ use Words.{World, armed, as_delivered, as_lost, begins, change_frame, count_work
 use Words.{done_step, frame_number, giving, halted_at, halted_outs, happens, junk, junk_fits, labels_unless, lacks_labels, limited, lose}
 use Words.{lose_frame}
 use Words.{most_frames, new_frame, no_labels, node_numbers, node_of, put, reasons, run_unless, sends, show_all, show_up, is_up_at}
-use Words.{step_node, holders}
+use Words.{step_node, see}
 use Words.{step_with, steps, Move, moved, world_by, frame_kind, Branch}
 use Words.body
 use Words.event
@@ -46,9 +46,12 @@ use Rattle.arj_law_runs.proofs.addresses.Runs.{kept, within_of}
 use Rattle.arj_law_runs.specs.addresses.Addresses.{AreAddressed, GoWithin, IsNode}
 use Rattle.arj_law_cause.proofs.follow.lines.{Aborts.abort_many, Adding.count_so, Numbers.AreInTurn}
 use Rattle.arj_law_cause.proofs.follow.lines.Events as lines
-use Rattle.arj_law_cause.proofs.sending.Begun.{holders_few}
+use Rattle.arj_law_cause.proofs.leading.Settles.{KnownUp, known_up}
+use Rattle.arj_law_cause.proofs.leading.Bounds.{IsSettling, quiesce_adds, settle_adds, settling_of, settling_on}
+use Rattle.arj_law_cause.proofs.sending.Begun.{FewAt, Known, few_at, known_kept}
 use Rattle.arj_law_cause.proofs.sending.Counted.{each, each_is}
 use Rattle.arj_law_cause.proofs.sending.Events.{abort_adds, acked_adds, commit_adds, giveup_adds, hello_adds, other_adds, prepared_adds}
+use Rattle.arj_law_cause.proofs.sending.Events.{restart_adds, tick_adds}
 use Rattle.arj_law_cause.proofs.sending.Ordered.{AllUp, UpNode, ordered_keep}
 use Rattle.arj_law_cause.specs.rounds.Sends.{RunsSendFew, SendsStep, carries, is_acked, is_answered, is_answered_frame, is_call_frame}
 use Rattle.arj_law_cause.specs.rounds.Sends.{is_hello, is_of_call, is_prepared, most_delivered, most_sent, others}
@@ -214,34 +217,35 @@ begin_few hd l how parent = steps_header hd 0 (input.Begin l how parent) nothing
 crash_few : (hd : Header) (n : Node) → Few 0 (step hd n input.Crash)
 crash_few hd = steps_header hd 0 input.Crash nothing (λ n t. (omega arith, omega arith))
 
-show_few : (hd : Header) (x : ℕ) (n : Node) → Few 0 (step hd n (input.Show x))
-show_few hd x = steps_header hd 0 (input.Show x) nothing (λ n t. (none n.number n.disk, none n.number n.disk))
+-- what is shown is no frame
+pub shown_few : (x k : ℕ) (d : Disk) → count_sent (Words.input.show_outs k x d) ≤ 0
+shown_few x k d = low (count_sent (Words.input.show_outs k x d)) (count_sent (show_entry k x d.names))
+    (count_sent (shown (copy_line k x) (object x) d.store (holder_of (object x) d.store)))
+    (count_both (show_entry k x d.names) (shown (copy_line k x) (object x) d.store (holder_of (object x) d.store)))
+    (first (k == 1)) (shown_none (copy_line k x) copy_none (object x) d.store (holder_of (object x) d.store))
   where
+    low : (a b c : ℕ) → a ≡ b + c → b ≡ 0 → c ≡ 0 → a ≤ 0
+    low a b c is x y = omega (arith, is, x, y)
+
     entry_none : (o : Option ObjectState) → count_sent (entry_line x o) ≡ 0
     entry_none None = refl
     entry_none (Some s) = refl
 
-    copy_none : (k : ℕ) (o : Option ObjectState) → count_sent (copy_line k x o) ≡ 0
-    copy_none k None = refl
-    copy_none k (Some s) = refl
+    copy_none : (o : Option ObjectState) → count_sent (copy_line k x o) ≡ 0
+    copy_none None = refl
+    copy_none (Some s) = refl
 
     shown_none : (line : Option ObjectState → List Effect) → ((o : Option ObjectState) → count_sent (line o) ≡ 0) → (u : Uid) (d : Pair)
         (o : Option Uid) → count_sent (shown line u d o) ≡ 0
     shown_none line each u d (Some holder) = refl
     shown_none line each u d None = each (held_at u d)
 
-    first : (k : ℕ) (d : Pair) (b : Bool) → count_sent (cond b (shown (entry_line x) (entry x) d (holder_of (entry x) d)) []) ≡ 0
-    first k d true = shown_none (entry_line x) entry_none (entry x) d (holder_of (entry x) d)
-    first k d false = refl
+    first : (b : Bool) → count_sent (cond b (shown (entry_line x) (entry x) d.names (holder_of (entry x) d.names)) []) ≡ 0
+    first true = shown_none (entry_line x) entry_none (entry x) d.names (holder_of (entry x) d.names)
+    first false = refl
 
-    none : (k : ℕ) (d : Disk) → count_sent (Words.input.show_outs k x d) ≤ 0
-    none k d = low (count_sent (Words.input.show_outs k x d)) (count_sent (show_entry k x d.names))
-        (count_sent (shown (copy_line k x) (object x) d.store (holder_of (object x) d.store)))
-        (count_both (show_entry k x d.names) (shown (copy_line k x) (object x) d.store (holder_of (object x) d.store)))
-        (first k d.names (k == 1)) (shown_none (copy_line k x) (copy_none k) (object x) d.store (holder_of (object x) d.store))
-      where
-        low : (a b c : ℕ) → a ≡ b + c → b ≡ 0 → c ≡ 0 → a ≤ 0
-        low a b c is x y = omega (arith, is, x, y)
+show_few : (hd : Header) (x : ℕ) (n : Node) → Few 0 (step hd n (input.Show x))
+show_few hd x = steps_header hd 0 (input.Show x) nothing (λ n t. (shown_few x n.number n.disk, shown_few x n.number n.disk))
 
 frame_few : (hd : Header) (k from : ℕ) (m : Message) → of_call m ≡ true → (n : Node) → Few 1 (step hd n (input.Frame k from (Some m)))
 frame_few hd k from m is = steps_header hd 1 (input.Frame k from (Some m)) (λ n. (omega arith, omega arith)) taken_few
@@ -428,8 +432,8 @@ module _ (hd : Header) (ls : List Words.Line) (w : World) (last : last_frame ls 
     (ends : (l : Label) (x : Node) (t : Parts) (b : Branch) → at_place (node_of l w) w.nodes ≡ Some x → x.live ≡ Some t →
     branch_named l t.coord ≡ Some b → is_some b.ended ≡ false →
     length (open_below (actor b.path) t.coord.tree ++ actor b.path ∷ []) ≤ length (aborted_of ls (act_in (terms.acts ls) (name l))))
-    (asks : (n : ℕ) (x : Node) (t : Parts) → at_place n w.nodes ≡ Some x → x.live ≡ Some t →
-    length (holders x.disk t) ≤ length (terms.acts ls)) where
+    (few : (n : ℕ) (x : Node) → at_place n w.nodes ≡ Some x → FewAt (length (terms.acts ls)) x)
+    (world : IsSettling hd ls w) where
   abbrev Bound : Event → Type 0
   Bound e = (a : Arm) → GoWithin hd.nodes (happens e a w) → IfSome (most_sent hd ls e) (λ k. Adds k w (happens e a w))
 
@@ -454,7 +458,8 @@ module _ (hd : Header) (ls : List Words.Line) (w : World) (last : last_frame ls 
   other_so : (k : FrameNo) (b : Bool) → carries is_hello ls (model.frame_no ls k) ≡ b →
       Delivers k (cond b (Some (length (terms.acts ls) * others hd)) (Some (3 * others hd)))
   other_so k true is within = times (length (terms.acts ls)) (deliver (frame_number k w) w)
-      (hello_adds hd w nodes numbers ups (frame_number k w) (length (terms.acts ls)) (test_is is_hello true k is) asks within)
+      (hello_adds hd w nodes numbers ups (frame_number k w) (length (terms.acts ls)) (test_is is_hello true k is)
+      (λ n x t there live. let f = few n x there in f.asked t live) within)
   other_so k false is within = times 3 (deliver (frame_number k w) w)
       (other_adds hd w nodes numbers ups (frame_number k w) (test_is is_hello false k is) within)
 
@@ -500,10 +505,12 @@ module _ (hd : Header) (ls : List Words.Line) (w : World) (last : last_frame ls 
       let c = length (aborted_of ls (act_in (terms.acts ls) (name l))) in
       times c (steps (node_of l w) (input.Abort l) w) (abort_adds hd w nodes numbers ups l c (ends l) within)
   bounded (event.GiveUp l) a within = times 2 (steps (node_of l w) (input.GiveUp l) w) (giveup_adds hd w nodes numbers ups l within)
-  bounded (event.Tick n) a within = tt
-  bounded (event.Restart n) a within = tt
-  bounded event.Settle a within = tt
-  bounded event.Quiesce a within = tt
+  bounded (event.Tick n) a within = times (7 * length (terms.acts ls)) (steps n input.Tick w)
+      (tick_adds hd w nodes numbers ups n (length (terms.acts ls)) (few n) within)
+  bounded (event.Restart n) a within = times (3 * length (terms.acts ls) + 1) (steps n input.Restart w)
+      (restart_adds hd w nodes numbers ups n (length (terms.acts ls)) (few n) within)
+  bounded event.Settle a within = settle_adds hd ls w world within
+  bounded event.Quiesce a within = quiesce_adds hd ls w world within
   bounded (event.Begin l n) a within = begins_frames (record { label = l; kind = Words.kind.Top; parent = None; node = n }) w
   bounded (event.Serial l n) a within = begins_frames (record { label = l; kind = Words.kind.Serial; parent = None; node = n }) w
   bounded (event.BeginIn l p) a within =
@@ -535,8 +542,8 @@ module _ (hd : Header) (ls : List Words.Line) (w : World) (last : last_frame ls 
     branch_named l t.coord ≡ Some b → is_some b.ended ≡ false →
     length (open_below (actor b.path) t.coord.tree ++ actor b.path ∷ [])
     ≤ length (aborted_of ls (act_in (terms.acts ls) (name l))))
-    (asks : (n : ℕ) (x : Node) (t : Parts) → at_place n w.nodes ≡ Some x → x.live ≡ Some t →
-    length (holders x.disk t) ≤ length (terms.acts ls))
+    (few : (n : ℕ) (x : Node) → at_place n w.nodes ≡ Some x → FewAt (length (terms.acts ls)) x)
+    (world : IsSettling hd ls w)
     (m : Move) where
   abbrev In : World → Type 0
   In v = GoWithin hd.nodes v → IfSome (most_sent hd ls (event_of m)) (λ k. Adds k w v)
@@ -553,9 +560,11 @@ module _ (hd : Header) (ls : List Words.Line) (w : World) (last : last_frame ls 
 
   fits : (b : Bool) → let v = happens (event_of m) (let a = m.asked in a.arm) (counted (record w { arms = m.falls })) in
       In (record (cond b (world_says (body.Limit Words.words.which.Frames ∷ []) (record v { over = true })) v) { arms = [] })
-  fits true = bounded hd ls (counted (record w { arms = m.falls })) last frames numbers nodes ups ends asks (event_of m)
+  fits true = bounded hd ls (counted (record w { arms = m.falls })) last frames numbers nodes ups ends few (settling_on hd ls w m.falls
+      world) (event_of m)
       (let a = m.asked in a.arm)
-  fits false = bounded hd ls (counted (record w { arms = m.falls })) last frames numbers nodes ups ends asks (event_of m)
+  fits false = bounded hd ls (counted (record w { arms = m.falls })) last frames numbers nodes ups ends few (settling_on hd ls w m.falls
+      world) (event_of m)
       (let a = m.asked in a.arm)
 
   accepted : (lacks : Bool) → In (record (cond lacks (no_labels (record w { arms = m.falls }))
@@ -582,7 +591,7 @@ module _ (hd : Header) (form : HeaderInForm hd) (front : Run hd) (m : Move) (p :
   before_tells : Tells p.start p.lines (let w = world_by hd front in w.frames) (let w = world_by hd front in w.nodes)
   before_tells = let t = ties.told hd form p (world_by hd front) s.all in t.tells
 
-  behind_tells : Tells p.start (let q = next p (event_of m) bodies in q.lines) (let v = moved m (world_by hd front) in v.frames)
+  pub behind_tells : Tells p.start (let q = next p (event_of m) bodies in q.lines) (let v = moved m (world_by hd front) in v.frames)
       (let v = moved m (world_by hd front) in v.nodes)
   behind_tells = let t = ties.told hd form (next p (event_of m) bodies) (moved m (world_by hd front)) after.all in t.tells
 
@@ -596,7 +605,7 @@ module _ (hd : Header) (form : HeaderInForm hd) (front : Run hd) (m : Move) (p :
   ups n x there =
       let h : Holds hd AllUp (world_by hd front) = moves_asked hd AllUp (keeps_asked hd AllUp (ordered_keep hd)) front in h.holds n x there
 
-  ends : (l : Label) (x : Node) (t : Parts) (b : Branch) → at_place (node_of l (world_by hd front))
+  pub ends : (l : Label) (x : Node) (t : Parts) (b : Branch) → at_place (node_of l (world_by hd front))
       (let w = world_by hd front in w.nodes) ≡ Some x → x.live ≡ Some t → branch_named l t.coord ≡ Some b → is_some b.ended ≡ false →
       length (open_below (actor b.path) t.coord.tree ++ actor b.path ∷ [])
       ≤ length (aborted_of p.lines (act_in (terms.acts p.lines) (name l)))
@@ -614,12 +623,19 @@ module _ (hd : Header) (form : HeaderInForm hd) (front : Run hd) (m : Move) (p :
       is_less : (a b : ℕ) → a ≡ b → a ≤ b
       is_less a b is = omega (arith, is)
 
-  asks : (n : ℕ) (x : Node) (t : Parts) → at_place n (let w = world_by hd front in w.nodes) ≡ Some x → x.live ≡ Some t →
-      length (holders x.disk t) ≤ length (terms.acts p.lines)
-  asks n x t there live = subst (λ ls. length (holders x.disk t) ≤ length (terms.acts ls))
-      (sym (ties.same_lines hd form p (world_by hd front) s.all)) (holders_few hd front n x there t live)
+  few : (n : ℕ) (x : Node) → at_place n (let w = world_by hd front in w.nodes) ≡ Some x → FewAt (length (terms.acts p.lines)) x
+  few n x there =
+      let h : Holds hd Known (world_by hd front) = moves_asked hd Known (known_kept hd) front in
+      subst (λ ls. FewAt (length (terms.acts ls)) x) (sym (ties.same_lines hd form p (world_by hd front) s.all))
+      (few_at hd (see h.sent (world_by hd front)) h.holds n x there)
 
-  within : GoWithin hd.nodes (moved m (world_by hd front))
+  settles : IsSettling hd p.lines (world_by hd front)
+  settles =
+      let h : Holds hd KnownUp (world_by hd front) = moves_asked hd KnownUp (known_up hd) front in
+      settling_of hd p.lines (world_by hd front) (ties.same_lines hd form p (world_by hd front) s.all) h nodes before_tells.pending
+      (before_tells.frames (λ from to what. is_hello what))
+
+  pub within : GoWithin hd.nodes (moved m (world_by hd front))
   within = within_of hd form (moved m (world_by hd front)) (move_asked hd (AreAddressed hd) (kept hd form) m (world_by hd front)
       (moves_asked hd (AreAddressed hd) (kept hd form) front))
 
@@ -628,7 +644,7 @@ module _ (hd : Header) (form : HeaderInForm hd) (front : Run hd) (m : Move) (p :
       (λ k. last_frame (let q = next p (event_of m) bodies in q.lines) ≤ last_frame p.lines + k)
       (λ k le. subst (λ n. n ≤ last_frame p.lines + k) (sym behind_tells.last)
       (subst (λ n. length (let v = moved m (world_by hd front) in v.frames) ≤ n + k) (sym before_tells.last) le))
-      (moved_few hd p.lines (world_by hd front) before_tells.last before_tells.frames numbers nodes ups ends asks m within)
+      (moved_few hd p.lines (world_by hd front) before_tells.last before_tells.frames numbers nodes ups ends few settles m within)
 
 -- so it is of each event of a run
 pub runs_send_few : RunsSendFew

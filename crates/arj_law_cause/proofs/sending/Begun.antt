@@ -1,25 +1,29 @@
--- Of how many actions a node has something: of no more than began, by the journal.
+-- Of how many actions a node has something, a record, or what is at work: of no more than began, by the journal.
 use Rattle.arj_law_parts.proofs.Words
-use Words.{◌≡◌, ◌∙◌, ◌≤◌, ◌+◌, ◌==◌, not, ℕ, suc, Bool, true, false, cond, List, [], ◌∷◌, ◌++◌, filter, length, map, refl, sym, ap, subst}
+use Words.{◌≡◌, ◌∙◌, ◌≤◌, ◌==◌, not, ℕ, suc, Bool, true, false, cond, List, [], ◌∷◌, ◌++◌, filter, length, map, refl, sym, ap, subst}
 use Words.{arith}
-use Words.{inl, inr, ⊎_elim, AllByRecursion, Contains, Option, Some, None, In, in_from, in_to, Ordering, Less, Equal, Greater}
+use Words.{inl, inr, AllByRecursion, Some, In, in_from, in_to, Ordering, Less, Equal, Greater}
 use Words.{match_ordering}
-use Words.{uid_eq, uid_is, uid_order, uid_same, Uid, put_uid, uid_set, with_uid, Parts, Node, Header, at_place, holders}
-use Words.{prepared_actions, server_holders, locks_of, world_by, see}
-use Rattle.arj_law_parts.proofs.parts.Keys.{order_itself, sorted_put}
+use Words.{uid_eq, uid_is, uid_order, uid_same, Uid, put_uid, uid_set, with_uid, Parts, Node, Header, holders}
+use Words.{◌&&◌, prepared_actions, server_holders, locks_of, at_uid, Intent}
+use Words.{Seen}
+use Rattle.arj_law_parts.proofs.parts.Keys.{in_at, order_itself, sorted_put}
 use Rattle.std.proofs.lemmas.List.{length-map}
-use Rattle.arj_law_parts.proofs.moves.Moving.{moves_asked}
-use Rattle.arj_law_parts.specs.moves.Keeps.{IsAtStarts}
+use Rattle.arj_law_parts.proofs.moves.Happens.{keeps_asked}
+use Rattle.arj_law_parts.specs.moves.Keeps.{KeepsAsked}
 use Rattle.arj_law_parts.specs.parts.Actions.{Action, act_of}
 use Rattle.arj_law_parts.specs.parts.Objects.{AreAbove, AreSorted}
-use Rattle.arj_law_runs.proofs.Terms.{Act, Holds, acts}
+use Rattle.arj_law_disk_view.specs.running.Records.{AreRecorded, IsRecorded}
+use Rattle.arj_law_runs.proofs.Terms.{Act, acts}
+use Rattle.arj_law_runs.proofs.follow.Uids.{KnowsNext, count_of, next_keep}
+use Rattle.arj_law_runs.proofs.resting.Quiesces.{asked_both}
 use Rattle.arj_law_runs.specs.journal.Paths.{AreAlike}
-use Rattle.arj_law_serial.proofs.Terms.{IsBegun, all_append, all_keys, all_set}
-use Rattle.arj_law_serial.proofs.holding.Events.{first_showing}
-use Rattle.arj_law_serial.proofs.holding.Running.{Showing, alike_of, showing_kept}
+use Rattle.arj_law_runs.specs.kept.Worlds.{IsGoodOf, IsMemory, IsUp}
+use Rattle.arj_law_promise.proofs.settling.{ConfirmKnown.IsNaming, ConfirmRuns.naming_keep, Settled.sorted_as}
+use Rattle.arj_law_serial.proofs.Terms.{ArePastIn, IsBegun, all_append, all_keys, all_set}
+use Rattle.arj_law_serial.proofs.holding.Running.{alike_of}
 use Rattle.arj_law_serial.proofs.past.Handling.{holders_begun}
 use Rattle.arj_law_cause.proofs.spelled.Lists.{filter_shorter}
-use Rattle.arj_promise.specs.Runs.{Run}
 
 -- ---- actions, each once
 
@@ -129,6 +133,10 @@ set_no_more : (begun : List Action) (us : List Uid) → AllByRecursion (IsBegun 
 set_no_more begun us all = subst (λ n. n ≤ length begun) (length-map {A = Uid} {B = Uid × ℕ} (uid_set us) (λ u. (u, 0)))
     (no_more (keyed (uid_set us)) begun (set_sorted us) (keys_begun begun (uid_set us) all))
 
+all_from : {A : Type 0} (P : A → Type 0) (xs : List A) → ((x : A) → In x xs → P x) → AllByRecursion P xs
+all_from P [] each = tt
+all_from P (x ∷ xs) each = (each x (inl refl), all_from P xs (λ y i. each y (inr i)))
+
 -- ---- by the journal
 
 alike_long : (begun : List Action) (xs : List Act) → AreAlike begun xs → length begun ≡ length xs
@@ -137,29 +145,111 @@ alike_long (a ∷ begun) (b ∷ xs) is = ap suc (alike_long begun xs is.3)
 alike_long [] (b ∷ xs) is = absurd is
 alike_long (a ∷ begun) [] is = absurd is
 
--- in a run, at a node: whom it has something of are no more than the actions of the journal
-module _ (hd : Header) (r : Run hd) where
-  abbrev shows : Holds hd (Showing hd 0 0) (world_by hd r)
-  shows = moves_asked hd (Showing hd 0 0) (showing_kept hd 0 0 (IsAtStarts hd (Showing hd 0 0)) (first_showing hd 0)) r
+-- what is known of who was begun, and told, and of records; and of how many actions a node has in its incarnation
+abbrev pub Known : Seen → Type 0
+Known M = IsNaming M × KnowsNext M
 
+pub known_kept : (hd : Header) → KeepsAsked hd Known
+known_kept hd = asked_both hd IsNaming KnowsNext (keeps_asked hd IsNaming (naming_keep hd)) (keeps_asked hd KnowsNext (next_keep hd))
+
+-- So many at most are at a node: of whom it has something, its actions, what it tells again, its records, and who has prepared there.
+pub record FewAt (a : ℕ) (x : Node) : Type 0 where
+  pub asked : (t : Parts) → x.live ≡ Some t → length (holders x.disk t) ≤ a
+  pub works : (t : Parts) → x.live ≡ Some t → length t.coord.doings ≤ a
+  pub telling : (t : Parts) → x.live ≡ Some t → length t.coord.telling ≤ a
+  pub records : length (let d = x.disk in d.intents) ≤ a
+  pub ready : length (uid_set (let d = x.disk in prepared_actions d.store ++ prepared_actions d.names)) ≤ a
+
+module _ {X : Type 0} where
+  -- what is found under each key of a sorted map
+  all_begun : (begun : List Action) (m : List (Uid × X)) → AreSorted m → ((u : Uid) (x : X) → at_uid u m ≡ Some x → IsBegun begun u) →
+      AreBegunAll begun m
+  all_begun begun m sorted found = all_from (λ (e : Uid × X). IsBegun begun e.0) m (λ e i. found e.0 e.1 (in_at e m sorted i))
+
+-- at a node of what is known
+module _ (hd : Header) (M : Seen) (known : Known M) where
   abbrev begun : List Action
-  begun = shows.holds.0
+  begun = let n = known.0.0.1 in n.0
 
-  many : length begun ≡ length (acts (let w = world_by hd r in w.lines))
-  many = alike_long begun (acts (let w = world_by hd r in w.lines))
-      (alike_of hd 0 0 begun (see shows.sent (world_by hd r)) shows.holds.1.0)
+  good : IsGoodOf begun M
+  good = let n = known.0.0.1 in n.1
 
-  few_of : (us : List Uid) → AllByRecursion (IsBegun begun) (uid_set us) →
-      length (uid_set us) ≤ length (acts (let w = world_by hd r in w.lines))
-  few_of us all = subst (λ n. length (uid_set us) ≤ n) many (set_no_more begun us all)
+  past : ArePastIn begun M
+  past = let n = known.0.0.1 in let z = n.2 in z.0.0.0
 
-  module _ (n : ℕ) (x : Node) (there : at_place n (let w = world_by hd r in w.nodes) ≡ Some x) where
-    pub holders_few : (t : Parts) → x.live ≡ Some t → length (holders x.disk t) ≤ length (acts (let w = world_by hd r in w.lines))
-    holders_few t live =
+  recorded : AreRecorded begun M
+  recorded = let n = known.0.0.1 in let z = n.2 in z.0.0.1
+
+  many : length begun ≡ length (acts M.lines)
+  many = let n = known.0.0.1 in let z = n.2 in alike_long begun (acts M.lines) (alike_of hd 0 0 begun M z.1.1)
+
+  within : (a : ℕ) → a ≤ length begun → a ≤ length (acts M.lines)
+  within a le = subst (λ n. a ≤ n) many le
+
+  few_set : (us : List Uid) → AllByRecursion (IsBegun begun) (uid_set us) → length (uid_set us) ≤ length (acts M.lines)
+  few_set us all = within (length (uid_set us)) (set_no_more begun us all)
+
+  few_map : {X : Type 0} (m : List (Uid × X)) → AreSorted m → ((u : Uid) (x : X) → at_uid u m ≡ Some x → IsBegun begun u) →
+      length m ≤ length (acts M.lines)
+  few_map m sorted found = within (length m) (no_more m begun sorted (all_begun begun m sorted found))
+
+  module _ (k : ℕ) (x : Node) (here : M.nodes k ≡ Some x) where
+    its : IsRecorded begun x
+    its = recorded k x here
+
+    rooted : (u : Uid) (i : Intent) → at_uid u (let d = x.disk in d.intents) ≡ Some i → IsBegun begun u
+    rooted u i is = let r = its in let c = r.disk in let s = c.each u i is in (s.0, s.1, s.2)
+
+    ready_begun : AllByRecursion (IsBegun begun) (uid_set (let d = x.disk in prepared_actions d.store ++ prepared_actions d.names))
+    ready_begun =
         let d = x.disk in
-        let good = shows.holds.1.0.1.0 in
-        let past = shows.holds.1.1.0.0 in
-        let its = past.nodes n x there in
-        let p = its.live t live in
-        few_of (server_holders t.server ++ locks_of t.naming ++ prepared_actions d.store ++ prepared_actions d.names)
-        (holders_begun begun good.begun d t its.store its.names (record { calls = p.calls; keys = p.keys; entries = p.entries }))
+        let p = past.nodes k x here in
+        all_set (IsBegun begun) (prepared_actions d.store ++ prepared_actions d.names) (all_append (IsBegun begun) (prepared_actions
+        d.store)
+        (prepared_actions d.names) (all_keys (IsBegun begun) d.store.pend p.store) (all_keys (IsBegun begun) d.names.pend p.names))
+
+    asked_few : (t : Parts) → x.live ≡ Some t → length (holders x.disk t) ≤ length (acts M.lines)
+    asked_few t live =
+        let d = x.disk in
+        let p = past.nodes k x here in
+        let l = p.live t live in
+        few_set (server_holders t.server ++ locks_of t.naming ++ prepared_actions d.store ++ prepared_actions d.names)
+        (holders_begun begun good.begun d t p.store p.names (record { calls = l.calls; keys = l.keys; entries = l.entries }))
+
+    up_here : (t : Parts) → x.live ≡ Some t → IsUp begun M.sent M.labels k (let d = x.disk in d.inc) t
+    up_here t live = let g = good in let p = g.places k x here in
+        subst (IsMemory begun M.sent M.labels k (let d = x.disk in d.inc)) live p.memory
+
+    pub works_counted : (t : Parts) → x.live ≡ Some t → (i : ℕ) × (length t.coord.doings ≡ count_of k i (acts M.lines))
+    works_counted t live =
+        let u = up_here t live in
+        let f = u.faithful in
+        let n = (known.1.1 k x here).1 t live in ((let d = x.disk in d.inc), f.works ∙ sym n.1)
+
+    works_few : (t : Parts) → x.live ≡ Some t → length t.coord.doings ≤ length (acts M.lines)
+    works_few t live =
+        let u = up_here t live in
+        let f = u.faithful in
+        let n = (known.1.1 k x here).1 t live in
+        less (length t.coord.doings) (length t.coord.tree.branches) (count_of k (let d = x.disk in d.inc) (acts M.lines))
+        (length (acts M.lines)) f.works n.1 (filter_shorter (λ (a : Act). ((let u = a.uid in u.node) == k)
+        && ((let u = a.uid in u.inc) == (let d = x.disk in d.inc))) (acts M.lines))
+      where
+        less : (a b c e : ℕ) → a ≡ b → c ≡ b → c ≤ e → a ≤ e
+        less a b c e one two le = omega (arith, one, two, le)
+
+    telling_few : (t : Parts) → x.live ≡ Some t → length t.coord.telling ≤ length (acts M.lines)
+    telling_few t live =
+        let r = its in
+        let l = r.live t live in
+        few_map t.coord.telling (sorted_as t.coord.telling l.1) (λ u j is. let h = l.0 in let i = h.told u j is in rooted u i.0 i.1)
+
+    pub few_at : FewAt (length (acts M.lines)) x
+    few_at = record {
+      asked = asked_few;
+      works = works_few;
+      telling = telling_few;
+      records = let r = its in let c = r.disk in few_map (let d = x.disk in d.intents) (sorted_as (let d = x.disk in d.intents) c.sorted)
+          rooted;
+      ready = let d = x.disk in few_set (prepared_actions d.store ++ prepared_actions d.names) ready_begun;
+    }

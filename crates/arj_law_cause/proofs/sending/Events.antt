@@ -1,5 +1,5 @@
--- How many frames an event sends to each other node: of a commit, an abort and a giveup, and of the delivery of an answer in a commit or of
--- an acknowledgement.
+-- How many frames an event sends to each other node: of a commit, an abort and a giveup, of the delivery of an answer in a commit or of
+-- an acknowledgement, and of a tick and a restart.
 use Rattle.arj_law_parts.proofs.Words
 use Words.{◌≡◌, ◌≤◌, ◌<◌, ◌∙◌, ◌+◌, ◌-◌, ◌==◌, ◌++◌, ℕ, Bool, true, false, cond, List, [], ◌∷◌, length, refl, sym, ap, subst, arith}
 use Words.{and_parts, list_all}
@@ -9,7 +9,7 @@ use Words.{actor, acts, branch_named, commit_action, give_up, abort_action, on_b
 use Words.{Input, Node}
 use Words.{Step, at_place, coord_did, handled_step, node_did, refusal, step, step_down, step_of, step_unless, step_up, Frame, World}
 use Words.{as_delivered, change_frame, deliver, deliver_frame, frame_kind, node_of, steps, Look, PutInc, Prepare, Commit, Abort, PutIntent}
-use Words.{holders, RemoveIntent, is_some, ◌||◌, refused_by}
+use Words.{holders, RemoveIntent, is_some, ◌||◌, refused_by, ◌*◌, again_all, tick_outs, restart_outs, parts_in, uid_set, prepared_actions}
 use Words.body
 use Words.input
 use Words.message
@@ -21,7 +21,9 @@ use Rattle.arj_law_runs.proofs.bindings.Handled.{outs_of}
 use Rattle.arj_law_runs.proofs.follow.Telling.{carried_by, frame_test}
 use Rattle.arj_law_runs.specs.addresses.Addresses.{GoWithin, IsNode}
 use Rattle.arj_law_cause.proofs.sending.Counted.{FewTo, each, step_adds}
-use Rattle.arj_law_cause.proofs.sending.Ordered.{AllPut, UpCoord, UpNode, acts_up, message_up}
+use Rattle.arj_law_cause.proofs.sending.Begun.{FewAt}
+use Rattle.arj_law_cause.proofs.sending.Ordered.{AllPut, UpCoord, UpNode, acts_up, again_up, message_up, restart_up, tick_up}
+use Rattle.arj_law_cause.proofs.sending.Ticks.{restart_mass, tick_mass}
 use Rattle.arj_law_cause.proofs.sending.Handlers.{abort_mass, commit_mass, giveup_mass, taken_mass}
 use Rattle.arj_law_cause.proofs.sending.Hellos.{hello_mass}
 use Rattle.arj_law_cause.proofs.sending.Weights.{mass, own}
@@ -118,6 +120,22 @@ module _ (k c : ℕ) (n : Node) (number : n.number ≡ k) (up : UpNode n) where
           let so = message_up n.number n.disk t v from m outs (taken_took n.number n.disk t v from m outs is) (up.1 t live) in
           let all = whole_few j v outs so.0 so.1 le in (all, all)
 
+  -- of a tick, and of a restart
+  tick_few : (j : ℕ) (t : Parts) → n.live ≡ Some t → mass k j (c + 1) (tick_outs n t) ≤ c →
+      FewTo j (cond (j == k) 0 c) (step_up input.Tick n t)
+  tick_few j t live few =
+      let r = again_all t.coord.doings t.coord in
+      let all = whole_few j (with_coord t r.part) (tick_outs n t) (again_up t.coord (up.1 t live)) (tick_up n.number n.disk t) few in
+      (all, all)
+
+  restart_few : (hd : Header) (j : ℕ) → mass k j (c + 1) (restart_outs hd k (let d = n.disk in d.inc + 1) n.disk) ≤ c →
+      FewTo j (cond (j == k) 0 c) (step_down hd input.Restart n)
+  restart_few hd j few =
+      let inc = (let d = n.disk in d.inc + 1) in
+      let so = restart_up hd n.number inc n.disk up.0 in
+      let all = whole_few j (parts_in n.number inc n.disk) (restart_outs hd n.number inc n.disk) so.0 so.1
+      (subst (λ z. mass k j (c + 1) (restart_outs hd z inc n.disk) ≤ c) (sym number) few) in (all, all)
+
   frame_few : (j f from : ℕ) (m : Message) (t : Parts) → n.live ≡ Some t → own k j (c + 1) m ≤ c →
       mass k j (c + 1) (outs_of (taken n.number n.disk t from m)) ≤ c
   frame_few j f from m t live few = less (mass k j (c + 1) (outs_of (taken n.number n.disk t from m))) (own k j (c + 1) m)
@@ -187,6 +205,47 @@ module _ (hd : Header) (w : World) (nodes : (n : ℕ) (x : Node) → at_place n 
           opened = (first_not 6 (is_some b.ended) ((7, Words.waits_above b t.coord || Words.waits_below b t.coord) ∷ [])
               (ap (refused_by Words.abort_reasons t.coord) (sym named) ∙ sym (ap (input.refusal_at w.header (input.Abort l)) live)
               ∙ free)).0
+
+  -- ---- ticks and restarts
+
+  less_than : (a b c : ℕ) → a ≤ b → b ≤ c → a ≤ c
+  less_than a b c x y = omega (arith, x, y)
+
+  pub tick_adds : (k a : ℕ) → ((x : Node) → at_place k w.nodes ≡ Some x → FewAt a x) → AddsEach (7 * a) (steps k input.Tick w)
+  tick_adds k a few within = step_adds hd (7 * a) k input.Tick w (nodes k) within (λ j n there.
+      step_few w.header j (cond (j == k) 0 (7 * a)) input.Tick n (least _, least _) (λ t live free.
+      tick_few k (7 * a) n (numbers k n there) (ups k n there) j t live (so j n there t live)))
+    where
+      seven : (x y z : ℕ) → x ≤ a → y ≤ a → z ≤ a → (4 * x + 2 * y) + z ≤ 7 * a
+      seven x y z p q r = omega (arith, p, q, r)
+
+      so : (j : ℕ) (n : Node) → at_place k w.nodes ≡ Some n → (t : Parts) → n.live ≡ Some t →
+          mass k j (7 * a + 1) (tick_outs n t) ≤ 7 * a
+      so j n there t live =
+          let f = few n there in
+          less_than (mass k j (7 * a + 1) (tick_outs n t))
+          ((4 * length t.coord.doings + 2 * length t.coord.telling) + length (holders n.disk t)) (7 * a)
+          (tick_mass k j (7 * a + 1) n.number n.disk t ((ups k n there).1 t live))
+          (seven (length t.coord.doings) (length t.coord.telling) (length (holders n.disk t)) (f.works t live) (f.telling t live)
+          (f.asked t live))
+
+  pub restart_adds : (k a : ℕ) → ((x : Node) → at_place k w.nodes ≡ Some x → FewAt a x) → AddsEach (3 * a + 1) (steps k input.Restart w)
+  restart_adds k a few within = step_adds hd (3 * a + 1) k input.Restart w (nodes k) within (λ j n there.
+      step_few w.header j (cond (j == k) 0 (3 * a + 1)) input.Restart n
+      (restart_few k (3 * a + 1) n (numbers k n there) (ups k n there) w.header j (so j n there)) (λ t live free. (least _, least _)))
+    where
+      three : (x y : ℕ) → x ≤ a → y ≤ a → (2 * x + y) + 1 ≤ 3 * a + 1
+      three x y p q = omega (arith, p, q)
+
+      so : (j : ℕ) (n : Node) → at_place k w.nodes ≡ Some n →
+          mass k j ((3 * a + 1) + 1) (restart_outs w.header k (let d = n.disk in d.inc + 1) n.disk) ≤ 3 * a + 1
+      so j n there =
+          let f = few n there in
+          let d = n.disk in
+          less_than (mass k j ((3 * a + 1) + 1) (restart_outs w.header k (d.inc + 1) d))
+          ((2 * length d.intents + length (uid_set (prepared_actions d.store ++ prepared_actions d.names))) + 1) (3 * a + 1)
+          (restart_mass k j ((3 * a + 1) + 1) w.header (d.inc + 1) d (ups k n there).0)
+          (three (length d.intents) (length (uid_set (prepared_actions d.store ++ prepared_actions d.names))) f.records f.ready)
 
   -- ---- deliveries
 

@@ -22,7 +22,7 @@ use Rattle.arj_start.specs.Start.{Start}
 use Rattle.arj_law_cause.specs.follow.lines.Lines.{HasLines, LinesStep}
 use Rattle.arj_law_cause.specs.kinds.Kinds.{is_up}
 use Rattle.arj_law_cause.specs.kinds.Rows.{RowStep, row}
-use Rattle.arj_law_cause.specs.rounds.Fits.{FewFit, aborts_asked, asked_aborts, is_light, most_light}
+use Rattle.arj_law_cause.specs.rounds.Fits.{LightFit, aborts_asked, asked_aborts, is_light, most_light}
 use Rattle.arj_law_cause.specs.rounds.Sends.{SendsStep, carries, is_acked, is_answered_frame, is_call_frame, is_hello, is_prepared}
 use Rattle.arj_law_cause.specs.rounds.Sends.{most_delivered, most_sent, others}
 
@@ -48,7 +48,7 @@ asked_both : (xs ys : List Line) → asked_aborts (xs ++ ys) ≡ asked_aborts xs
 asked_both xs ys = ap (λ (ls : List Line). length ls) (filter-append aborts_asked xs ys)
     ∙ length-append (filter aborts_asked xs) (filter aborts_asked ys)
 
-limited_both : (xs ys : List Line) → is_limited (xs ++ ys) ≡ is_limited xs || is_limited ys
+pub limited_both : (xs ys : List Line) → is_limited (xs ++ ys) ≡ is_limited xs || is_limited ys
 limited_both xs ys = list_any-append (λ (l : Line). is_frame_limit l.body) xs ys
 
 -- ---- no node comes up
@@ -279,7 +279,7 @@ module _ (hd : Header) where
         one b is = refl
     ending_up n (l ∷ m ∷ ls) its = absurd its
 
-    ending_free : (n : ℕ) (ls : List Line) → AreEnding n ls → is_limited ls ≡ false
+    pub ending_free : (n : ℕ) (ls : List Line) → AreEnding n ls → is_limited ls ≡ false
     ending_free n [] its = refl
     ending_free n (l ∷ []) its = λ i. one l.body its.1 i || false
       where
@@ -290,7 +290,7 @@ module _ (hd : Header) where
 
     -- few events meet no limit of frames
     pub few_fit : (st : Start) (es : List Event) (journal : List Line) → Runs (RowStep (λ z. is_up) hd) st es journal →
-        Runs LightStep st es journal → FewFit es journal
+        Runs LightStep st es journal → LightFit es journal
     few_fit st es journal ups steps light few =
         let none = ups_none (at_start st) es ups.0 ups.2 light refl in
         let all : has_up journal ≡ false = ap has_up ups.3 ∙ list_any-append (λ (l : Line). is_up l.body) (let q = ups.0 in q.lines) ups.1

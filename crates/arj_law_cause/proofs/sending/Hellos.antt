@@ -11,7 +11,7 @@ module _ (n j k : ℕ) where
   abbrev mass : List Effect → ℕ
   mass es = weights.mass n j k es
 
-  queries_mass : (us : List Uid) → mass (map query_about us) ≤ length us
+  pub queries_mass : (us : List Uid) → mass (map query_about us) ≤ length us
   queries_mass [] = omega arith
   queries_mass (u ∷ us) = add (weights.weigh n j k u.node (message.Query (record { act = u }))) (mass (map query_about us)) (length us)
       (weights.weighs n j k 1 u.node (message.Query (record { act = u })) (omega arith) (omega arith)) (queries_mass us)

@@ -28,7 +28,7 @@ use Rattle.arj_law_cause.proofs.sending.Fits.{LightStep, few_fit, has_up}
 use Rattle.arj_law_cause.proofs.sending.Greeted.{GreetsUp, greeted_keep, greets}
 use Rattle.arj_law_cause.proofs.told.Joined as joined
 use Rattle.arj_law_cause.specs.kinds.Kinds.{is_limit}
-use Rattle.arj_law_cause.specs.rounds.Fits.{RunsFit}
+use Rattle.arj_law_cause.specs.rounds.Fits.{LightFit}
 use Rattle.arj_law_cause.specs.rounds.Known.{has_limit}
 use Rattle.arj_law_cause.specs.rounds.Sends.{carries, is_hello}
 
@@ -57,7 +57,7 @@ module _ (hd : Header) (form : HeaderInForm hd) (front : Run hd) (m : Move) (p :
   q = next p (event_of m) bodies
 
   -- the limit is met at so many frames
-  full : is_limited (next p (event_of m) bodies).lines ≡ true → last_frame (next p (event_of m) bodies).lines ≡ most_frames
+  pub full : is_limited (next p (event_of m) bodies).lines ≡ true → last_frame (next p (event_of m) bodies).lines ≡ most_frames
   full limited =
       let t = ties.told hd form p (world_by hd front) s.all in
       let base = ties.base hd form p (world_by hd front) s.all in
@@ -115,6 +115,6 @@ runs_light : (hd : Header) (r : Run hd) → IsInForm hd r → Runs (LightStep hd
 runs_light hd r its = walked.runs_so hd its.header (LightStep hd)
     (λ front m p bodies few s on step after. light hd its.header front m p bodies s on step after) r its
 
--- few events meet no limit of frames
-pub runs_fit : RunsFit
-runs_fit hd r its = few_fit hd its.header r.start (run_events hd r) (journal_by hd r) (up_row hd r its) (runs_light hd r its)
+-- few events meet no limit of frames, where no node is greeted
+pub light_fit : (hd : Header) (r : Run hd) → IsInForm hd r → LightFit (run_events hd r) (journal_by hd r)
+light_fit hd r its = few_fit hd its.header r.start (run_events hd r) (journal_by hd r) (up_row hd r its) (runs_light hd r its)

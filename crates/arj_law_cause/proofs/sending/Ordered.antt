@@ -1,5 +1,6 @@
--- The nodes for which a commit waits, those that it tells of its end, and those of records stand in increasing order, each once: at each
--- node of a run, and after each message that a node takes.
+-- The nodes for which a commit waits, those that it tells of its end, and those of records stand in increasing order, each once, and what
+-- an
+-- action is at is its own: at each node of a run, and after each message that a node takes.
 use Rattle.arj_law_parts.proofs.Words
 use Words.{◌≡◌, ◌∙◌, ◌+◌, ◌==◌, ◌||◌, ℕ, Bool, true, false, cond, List, [], ◌∷◌, ◌++◌, map, refl, sym, ap, subst, ⊤, and_parts, list_all}
 use Words.{AllByRecursion, Option, Some, None, Uid, Header, End, Ask, Path, again_all, again_now, asks_all, asks_node}
@@ -21,7 +22,8 @@ use Terms.{Keeps, at, given, posted, said, up, Up, Walks, halted}
 use Rattle.arj_law_parts.proofs.coordinator
 use coordinator.{Works.KeepsTelling, Works.KeepsWorks, Works.Works, Works.telling_move, Works.works_begun, Works.works_move}
 use coordinator.{Works.works_new}
-use coordinator.Trace.{Came, GoesFurther, NewPlan, OldPlan, Out, PlanFrom, PlanMove, Plans, PutsRecord, Trace, plan_keeps}
+use coordinator.Trace.{Came, Confirms, GoesFurther, Marks, NewPlan, OldPlan, Out, PlanFrom, PlanMove, Plans, Prepares, PutsRecord, Trace}
+use coordinator.Trace.{Votes, plan_keeps}
 use coordinator.Trace.{trace_keeps, trace_says}
 use coordinator.Walks.{acts_trace, heard_trace, acked_trace, again_keeps}
 use Rattle.arj_law_lock_view.proofs.running.WalkSteps.{leaves}
@@ -58,9 +60,18 @@ Its u d = IsSentUp d.now
 abbrev Left : Uid → Doing → Type 0
 Left u d = IsRising d.now
 
+-- what an action is at is its own call or commit
+abbrev pub IsOwnNow : Uid → Now → Type 0
+IsOwnNow u Idle = ⊤
+IsOwnNow u (Calling s) = actor s.path ≡ u
+IsOwnNow u (Committing m) = actor (plan_of m).path ≡ u
+
+abbrev Home : Uid → Doing → Type 0
+Home u d = IsOwnNow u d.now
+
 -- so it is of all that a coordinator has
 abbrev pub UpCoord : Coord → Type 0
-UpCoord c = AreRising c × Works Its c × UpRecords c.telling
+UpCoord c = AreRising c × Works Its c × UpRecords c.telling × Works Home c
 
 sent_up : {came : Came} (p q : Plan) → Plans came p q → AreUp p.sent → AreUp q.sent
 sent_up p q plans up = plan_keeps (λ (r : Plan). AreUp r.sent) move plans up
@@ -86,6 +97,29 @@ works_up {c} {came} n t = trace_keeps (Works Its) (works_move Its keeps) t n
       commits = λ u m d on h. sent_up on.before (plan_of m) on.plans (before on.from);
     }
 
+home_trace : {c : Coord} {came : Came} {e : Coord} {outs : List Effect} → Works Home c → Trace c came c outs e → Works Home e
+home_trace {c} {came} n t = trace_keeps (Works Home) (works_move Home keeps) t n
+  where
+    still : {came : Came} (u : Uid) (p q : Plan) → PlanMove came p q → actor p.path ≡ u → actor q.path ≡ u
+    still u _ _ (Votes from a intents p states) is = is
+    still u _ _ (Prepares from a intents p) is = is
+    still u _ _ (Confirms from a intents p) is = is
+    still u _ _ (Marks m p) is = is
+    still u _ _ (GoesFurther ns p asked) is = is
+
+    before : {came : Came} {u : Uid} {p : Plan} {left : List ℕ} → PlanFrom c came u p left → actor p.path ≡ u
+    before (NewPlan l b intents named) = refl
+    before (OldPlan u d m found is) = subst (IsOwnNow u) is (n u d found)
+
+    keeps : KeepsWorks Home c came
+    keeps = record {
+      fresh = λ u l. tt;
+      rests = λ u d h. tt;
+      takes = λ u d ns h. h;
+      calls = λ s d e is h. refl;
+      commits = λ u m d on h. plan_keeps (λ (p : Plan). actor p.path ≡ u) (λ p q. still u p q) on.plans (before on.from);
+    }
+
 pub found_up : (u : Uid) (es : List (Uid × Intent)) (i : Intent) → UpRecords es → at_uid u es ≡ Some i → AreUp i.nodes
 found_up u es i all is = all_at_uid UpIntent u i es all is
 
@@ -102,10 +136,10 @@ telling_up {c} {came} n t = trace_keeps (λ (f : Coord). UpRecords f.telling) (t
     }
 
 up_trace : {c : Coord} {came : Came} {e : Coord} {outs : List Effect} → UpCoord c → Trace c came c outs e → UpCoord e
-up_trace h t = (rises h.0 t, works_up h.1 t, telling_up h.2 t)
+up_trace h t = (rises h.0 t, works_up h.1 t, telling_up h.2 t, home_trace h.3 t)
 
 up_new : (node inc : ℕ) (records : List (Uid × Intent)) → UpRecords records → UpCoord (record (new_coord node inc) { telling = records })
-up_new node inc records all = (works_new Left node inc records, works_new Its node inc records, all)
+up_new node inc records all = (works_new Left node inc records, works_new Its node inc records, all, works_new Home node inc records)
 
 -- ---- what is put on a disk
 
@@ -311,6 +345,7 @@ ordered_keep hd = record {
         works_begun Left l how parent (parent_of parent t.coord) t.coord (λ u. tt) h.0,
         works_begun Its l how parent (parent_of parent t.coord) t.coord (λ u. tt) h.1,
         h.2,
+        works_begun Home l how parent (parent_of parent t.coord) t.coord (λ u. tt) h.3,
       ) its.0 (tt, tt) (others k d (Some t) M all);
   tick = λ e k d t M all.
       let its = own k d (Some t) M all in

@@ -15,10 +15,11 @@ use Rattle.arj_law_cause.proofs.sending.Weights.{mass, mass_both, own, weigh}
 
 -- ---- what holds of a node within a step
 
-abbrev Good : Here → Type 0
+abbrev pub Good : Here → Type 0
 Good h = UpRecords (let d = h.disk in d.intents) × UpCoord (let t = h.parts in t.coord)
 
-ran_good : (n : ℕ) (v : Parts) (es : List Effect) (d : Disk) → UpCoord v.coord → UpRecords d.intents → AllPut es → Good (ran n v es d).here
+pub ran_good : (n : ℕ) (v : Parts) (es : List Effect) (d : Disk) → UpCoord v.coord → UpRecords d.intents → AllPut es →
+    Good (ran n v es d).here
 ran_good n v [] d up all puts = (all, up)
 ran_good n v (Say b ∷ es) d up all puts = ran_good n v es d up all puts.1
 ran_good n v (Do w ∷ es) d up all puts = ran_good n v es (worked w d) up (worked_up w d puts.0 all) puts.1
@@ -28,7 +29,7 @@ ran_good n v (Send to m ∷ es) d up all puts = by (to == n) (ran_good n v es d 
     by true ih = ih
     by false ih = ih
 
-looks_put : (es : List Effect) → AreLooks es → AllPut es
+pub looks_put : (es : List Effect) → AreLooks es → AllPut es
 looks_put [] looks = tt
 looks_put (Do Look ∷ es) looks = (tt, looks_put es looks)
 looks_put (Do (PutInc i) ∷ es) looks = absurd (cc looks)

@@ -6,7 +6,7 @@ use Rattle.arj_promise.specs.Runs.{IsInForm, Run}
 use Rattle.arj_law_cause.proofs.quiesces.Alone.{runs_answer_alone}
 use Rattle.arj_law_cause.proofs.quiesces.Framed.{runs_send_few}
 use Rattle.arj_law_cause.proofs.quiesces.Rounds.{runs_answer, runs_end_rounds}
-use Rattle.arj_law_cause.proofs.sending.Light.{runs_fit}
+use Rattle.arj_law_cause.proofs.leading.Runs.{runs_fit}
 use Rattle.arj_law_cause.proofs.told.Every.{journals_say_why}
 use Rattle.arj_law_cause.proofs.told.Joined.{journals_follow}
 use Rattle.arj_law_cause.proofs.waits.replies.Running.{replies_end}

@@ -1,6 +1,6 @@
--- How many frames an event sends at most: a call, an include, a commit, a giveup, an abort, and a delivery.
+-- How many frames an event sends at most.
 use Rattle.std.specs.Prelude.{◌≤◌, ◌+◌, ◌-◌, ◌*◌, ◌==◌, ◌&&◌, ◌||◌, length, not, ℕ, List, Bool, true, false, if◌then◌else◌, IfSome}
-use Rattle.std.specs.Prelude.{Option, Some, None}
+use Rattle.std.specs.Prelude.{[], ◌∷◌, Option, Some}
 use Rattle.arj_journal.specs.declared.body.Body.{Body}
 use Rattle.arj_journal.specs.declared.body.FrameKind.{FrameKind}
 use Rattle.arj_journal.specs.declared.body.FrameKind.TheVariants as frame
@@ -14,7 +14,7 @@ use Rattle.arj_model.specs.CausePends.{frame_is}
 use Rattle.arj_model.specs.Follows.{Runs}
 use Rattle.arj_model.specs.Own.{aborted_of}
 use Rattle.arj_model.specs.Past.{Past, next}
-use Rattle.arj_model.specs.Refusals.{frame_no, last_frame}
+use Rattle.arj_model.specs.Refusals.{frame_no, last_frame, open_frames}
 use Rattle.arj_law_runs.specs.follow.Frames.{run_events}
 use Rattle.arj_promise.specs.Runs.{IsInForm, Run, journal_by}
 
@@ -84,9 +84,31 @@ most_delivered hd lines k =
     else (if carries is_prepared lines k then Some (2 * others hd)
     else (if carries is_hello lines k then Some (length (acts lines) * others hd) else Some (3 * others hd))))
 
+-- The open frame of this number leads to so many at most, with what these lead to: a hello to a question for each action that began, what
+-- answers it, what acknowledges that, and one to each node behind an acknowledgement; any other to no more than a question does.
+abbrev pub most_led : Header → List Line → ℕ → ℕ
+most_led hd lines k = if carries is_hello lines k then (hd.nodes + 3) * length (acts lines) else hd.nodes + 2
+
+-- so these frames
+abbrev pub all_led : Header → List Line → List ℕ → ℕ
+all_led hd lines [] = 0
+all_led hd lines (k ∷ ks) = most_led hd lines k + all_led hd lines ks
+
+-- A settle sends what open frames lead to, and what actions that began have to do still: eight for what is left of a call, or to each node
+-- two by which states are prepared, and at its end one that tells of it, with an acknowledgement, and one to each node behind that.
+abbrev pub most_settled : Header → List Line → ℕ
+most_settled hd lines = all_led hd lines (open_frames lines) + (hd.nodes * (hd.nodes + 4) + 8) * length (acts lines)
+
+-- A quiesce sends as many, and each node that ticks what is sent again for each action that began, and what that leads to: two to each node
+-- for what it waits with, one that tells of its end, with what that leads to, and one question.
+abbrev pub most_quiesced : Header → List Line → ℕ
+most_quiesced hd lines = most_settled hd lines + hd.nodes * ((hd.nodes * (hd.nodes + 5) + 5) * length (acts lines))
+
 -- How many frames the event sends at most, where these lines stand before it: one where it calls or includes, or hands over bytes; what a
 -- delivery may; to each other node four where an action commits, two where it is given up, and one for each open action that an abort ends;
--- of a tick, a restart, a settle and a quiesce nothing is said; and none where it is any other.
+-- to each other node seven for each action that began where a node ticks: four for what it waits with, two for its record, and one
+-- question;
+-- and three for each where a node restarts, with a hello besides; what a settle and a quiesce may; and none where it is any other.
 abbrev pub most_sent : Header → List Line → Event → Option ℕ
 most_sent hd lines (event.Call l x op) = Some 1
 most_sent hd lines (event.Include l x n) = Some 1
@@ -95,10 +117,10 @@ most_sent hd lines (event.Junk n bytes) = Some 1
 most_sent hd lines (event.Commit l) = Some (4 * others hd)
 most_sent hd lines (event.Abort l) = Some (length (aborted_of lines (act_in (acts lines) (name l))) * others hd)
 most_sent hd lines (event.GiveUp l) = Some (2 * others hd)
-most_sent hd lines (event.Tick n) = None
-most_sent hd lines (event.Restart n) = None
-most_sent hd lines event.Settle = None
-most_sent hd lines event.Quiesce = None
+most_sent hd lines (event.Tick n) = Some ((7 * length (acts lines)) * others hd)
+most_sent hd lines (event.Restart n) = Some ((3 * length (acts lines) + 1) * others hd)
+most_sent hd lines event.Settle = Some (most_settled hd lines)
+most_sent hd lines event.Quiesce = Some (most_quiesced hd lines)
 most_sent hd lines e = Some 0
 
 -- so many at most are sent in it, by the numbers of the last frames before it and behind it

@@ -25,7 +25,7 @@ pub record TellsQuiesces (hd : Header) (st : Start) (es : List Event) (journal :
   -- an event sends so many frames at most, but for ticks, restarts, settles, quiesces and deliveries of a hello
   pub sends : Runs (SendsStep hd) st es journal
   -- few events, none of them a tick, a restart, a settle or a quiesce, meet no limit of frames
-  pub fits : FewFit es journal
+  pub fits : FewFit hd es journal
 
 -- All of this, and what each event writes.
 pub record TellsItsCauses (hd : Header) (st : Start) (es : List Event) (journal : List Line) : Type 0 where

@@ -74,7 +74,7 @@ node_adds P k i w n there tells =
 
 -- ---- settles, and ticks of all nodes
 
-deliver_stands : (j : ℕ) (w : World) → Adds AllStand w (deliver j w)
+pub deliver_stands : (j : ℕ) (w : World) → Adds AllStand w (deliver j w)
 deliver_stands j w = by (at_place j w.frames)
   where
     at : (f : Frame) (v : World) → Adds AllStand w v → (o : Option Node) → at_place f.to v.nodes ≡ o →
@@ -111,7 +111,7 @@ tick_of k hd n = by n.live refl
     by (Some t) is = subst (Tells (Led works Nothing k) k n.disk) (sym (ap (input.step_unless hd input.Tick n)
         (ap (input.refusal_at hd input.Tick) is) ∙ ap (input.step_of hd input.Tick n) is)) (tick_tells k n t)
 
-ticks_stand : (ns : List ℕ) (w : World) → Adds AllStand w (tick_all ns w)
+pub ticks_stand : (ns : List ℕ) (w : World) → Adds AllStand w (tick_all ns w)
 ticks_stand [] w = adds_none w
 ticks_stand (k ∷ ns) w = adds_both w (tick_up k w) (tick_all ns (tick_up k w)) (by (w.full || not (is_up_at k w))) (ticks_stand ns
     (tick_up k w))

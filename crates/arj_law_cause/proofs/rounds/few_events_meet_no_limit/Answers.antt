@@ -1,4 +1,4 @@
-use Rattle.arj_law_cause.proofs.sending.Light.{runs_fit}
+use Rattle.arj_law_cause.proofs.leading.Runs.{runs_fit}
 use Rattle.arj_law_cause.proofs.rounds.few_events_meet_no_limit.Goals as goal
 
 pub returns : goal.returns
