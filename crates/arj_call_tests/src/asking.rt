@@ -6,7 +6,7 @@ use arj_asking::{
     again_all, asker_has_room, begin_action, call, commit_action, give_up, has_room, heard,
     is_meant,
 };
-use arj_base::{Binding, Format, NodeList, ObjectState, States, Uid, object_uid};
+use arj_base::{Binding, Bytes, Format, NodeList, ObjectState, States, Uid, object_uid};
 use arj_class::{Answer, Counter, ObjectClass, Op};
 use arj_coord::{Coord, Effect, Effects, Records};
 use arj_journal::{Body, Kind, Label};
@@ -166,123 +166,170 @@ fn message(alloc: Global, told: Told, req: u32) -> Result<Message, AllocError>
     })
 }
 
-// A line by its first word.
-fn line_text(alloc: Global, body: &Body) -> Result<String, AllocError> {
+// A line by its first word, and its number, if it has one.
+fn line_word(body: &Body) -> (&'static str, Option<u64>) {
     match body {
-        Body::Began { .. } => format!(in alloc; "began, "),
-        Body::Ok { x, .. } => format!(in alloc; "ok {x}, "),
-        Body::Lost { node, .. } => format!(in alloc; "lost {node}, "),
-        Body::Committing { .. } => format!(in alloc; "committing, "),
-        Body::Committed { .. } => format!(in alloc; "committed, "),
-        Body::GaveUp { node, .. } => format!(in alloc; "gave up {node}, "),
-        _ => format!(in alloc; "another line, "),
+        Body::Began { .. } => ("began", None),
+        Body::Ok { x, .. } => ("ok", Some(u64::from(*x))),
+        Body::Lost { node, .. } => ("lost", Some(u64::from(*node))),
+        Body::Committing { .. } => ("committing", None),
+        Body::Committed { .. } => ("committed", None),
+        Body::GaveUp { node, .. } => ("gave up", Some(u64::from(*node))),
+        _ => ("another line", None),
     }
 }
 
-// A message by its kind, with its node and, for a request, its number.
-fn message_text(alloc: Global, node: u8, message: &Message) -> Result<String, AllocError> {
+// A message by its kind, and for a request its number.
+fn message_word(message: &Message) -> (&'static str, Option<u64>) {
     match message {
-        Message::Bind(m) => format!(in alloc; "bind {node} {}, ", m.head.req),
-        Message::Load(m) => format!(in alloc; "load {node} {}, ", m.head.req),
-        Message::Activate(m) => format!(in alloc; "activate {node} {}, ", m.head.req),
-        Message::RecordMsg(m) => format!(in alloc; "record {node} {}, ", m.head.req),
-        Message::Invoke(m) => format!(in alloc; "invoke {node} {}, ", m.head.req),
-        Message::Vote(m) => format!(in alloc; "vote {node} {}, ", m.head.req),
-        Message::Prepare(m) => format!(in alloc; "prepare {node} {}, ", m.head.req),
-        Message::Confirm(m) => format!(in alloc; "confirm {node} {}, ", m.head.req),
-        Message::Told(_) => format!(in alloc; "told {node}, "),
-        _ => format!(in alloc; "another message, "),
+        Message::Bind(m) => ("bind", Some(u64::from(m.head.req))),
+        Message::Load(m) => ("load", Some(u64::from(m.head.req))),
+        Message::Activate(m) => ("activate", Some(u64::from(m.head.req))),
+        Message::RecordMsg(m) => ("record", Some(u64::from(m.head.req))),
+        Message::Invoke(m) => ("invoke", Some(u64::from(m.head.req))),
+        Message::Vote(m) => ("vote", Some(u64::from(m.head.req))),
+        Message::Prepare(m) => ("prepare", Some(u64::from(m.head.req))),
+        Message::Confirm(m) => ("confirm", Some(u64::from(m.head.req))),
+        Message::Told(_) => ("told", None),
+        _ => ("another message", None),
     }
 }
 
-fn effect_text(alloc: Global, effect: &Effect) -> Result<String, AllocError> {
+// Puts a number behind a space, if there is one.
+fn put_number(text: &mut Bytes, number: Option<u64>) -> Result<(), AllocError> {
+    let Some(number) = number else {
+        return Ok(());
+    };
+    text.extend(b" ")?;
+    text.extend_decimal(number)
+}
+
+// Puts a word with its numbers.
+fn put_word(
+    text: &mut Bytes,
+    word: &str,
+    first: Option<u64>,
+    second: Option<u64>,
+) -> Result<(), AllocError> {
+    text.extend(word.as_bytes())?;
+    put_number(text, first)?;
+    put_number(text, second)?;
+    text.extend(b", ")
+}
+
+// Puts an effect: a line, a message with its node, or work on a record with how many nodes it lists.
+fn put_effect(text: &mut Bytes, effect: &Effect) -> Result<(), AllocError> {
     match effect {
-        Effect::Say(body) => line_text(alloc, body),
-        Effect::Send(node, message) => message_text(alloc, *node, message),
-        Effect::PutRecord(intent) => {
-            let nodes = intent.nodes.as_slice().len();
-            format!(in alloc; "put {nodes}, ")
+        Effect::Say(body) => {
+            let (word, number) = line_word(body);
+            put_word(text, word, number, None)
         }
-        Effect::RemoveRecord(_) => format!(in alloc; "remove, "),
+        Effect::Send(node, message) => {
+            let (word, req) = message_word(message);
+            put_word(text, word, Some(u64::from(*node)), req)
+        }
+        Effect::PutRecord(intent) => {
+            put_word(
+                text,
+                "put",
+                Some(intent.nodes.as_slice().len() as u64),
+                None,
+            )
+        }
+        Effect::RemoveRecord(_) => put_word(text, "remove", None, None),
     }
 }
 
-fn text(alloc: Global, outs: &Effects) -> Result<String, AllocError> {
-    let mut text = String::new(alloc);
+fn text(alloc: Global, outs: &Effects) -> Result<Bytes, AllocError> {
+    let mut text = Bytes::new(alloc);
     for effect in outs.as_slice() {
-        text.push_str(effect_text(alloc, effect)?.as_str())?;
+        put_effect(&mut text, effect)?;
     }
     Ok(text)
 }
 
-// An answer arrives.
+// An answer arrives. False: it is void.
 fn hear(
     alloc: Global,
     coord: &mut Coord,
     from: u8,
-    message: Message,
+    message: Box<Message>,
+    records: &Records,
     outs: &mut Effects,
 ) -> Result<bool, AllocError>
-    requires { IsSendable message }
+    requires { IsSendable message.value }
 {
     if !is_meant(coord, &message) || !asker_has_room(coord, &message) {
         return Ok(false);
     }
-    let message = Box::new(alloc, message)?;
-    heard(alloc, coord, from, message, &Records::new(alloc), outs)
+    heard(alloc, coord, from, message, records, outs)
 }
 
-// What one act leads to.
-fn effects_of(alloc: Global, coord: &mut Coord, act: Act) -> Result<String, TreeFault> {
-    let mut outs = Effects::new(alloc);
-    let records = Records::new(alloc);
+// An answer to the request of this number, in memory of its own.
+fn boxed(alloc: Global, told: Told, req: u32) -> Result<Box<Message>, AllocError>
+    ensures { IfOk result (λ message. IsSendable message.value) }
+{
+    let message = message(alloc, told, req)?;
+    Ok(Box::new(alloc, message)?)
+}
+
+// A top begins.
+fn begins(coord: &mut Coord, outs: &mut Effects) -> Result<(), TreeFault> {
+    begin_action(coord, Label::new(b"a".as_slice()), Kind::Top, None, outs)?;
+    Ok(())
+}
+
+// One act. False: an answer that is void.
+fn acts(
+    alloc: Global,
+    coord: &mut Coord,
+    act: Act,
+    records: &Records,
+    outs: &mut Effects,
+) -> Result<bool, TreeFault> {
     if !has_room(coord, TOP) {
         return Err(TreeFault::Memory);
     }
     match act {
-        Act::Begin => {
-            let label = Label::new(b"a".as_slice());
-            begin_action(coord, label, Kind::Top, None, &mut outs)?;
-        }
-        Act::Call => call(alloc, coord, TOP, 1, Op::Add(2), &mut outs)?,
-        Act::Commit => commit_action(alloc, coord, TOP, &records, &mut outs)?,
-        Act::GiveUp => give_up(alloc, coord, TOP, &records, &mut outs)?,
-        Act::Again => again_all(alloc, coord, &mut outs)?,
+        Act::Begin => begins(coord, outs)?,
+        Act::Call => call(alloc, coord, TOP, 1, Op::Add(2), outs)?,
+        Act::Commit => commit_action(alloc, coord, TOP, records, outs)?,
+        Act::GiveUp => give_up(alloc, coord, TOP, records, outs)?,
+        Act::Again => again_all(alloc, coord, outs)?,
         Act::Hear(from, told, req) => {
-            let message = message(alloc, told, req)?;
-            if !hear(alloc, coord, from, message, &mut outs)? {
-                return Ok(format!(in alloc; "void")?);
-            }
-        }
-    }
-    Ok(text(alloc, &outs)?)
-}
-
-// Whether each act leads to the effects that are wanted.
-fn are_so(alloc: Global, acts: &[(Act, &str)]) -> Result<bool, TreeFault> {
-    let mut coord = Coord::new(alloc, 2, 1);
-    for (one, want) in acts {
-        if effects_of(alloc, &mut coord, *one)?.as_str() != *want {
-            return Ok(false);
+            let message = boxed(alloc, told, req)?;
+            return Ok(hear(alloc, coord, from, message, records, outs)?);
         }
     }
     Ok(true)
 }
 
-#[test]
-fn a_call_and_its_commit(rt: HostRuntime) -> Result<(), Fail> {
-    match are_so(rt.alloc(), WHOLE) {
-        Ok(same) => assert!(rt; same),
-        Err(_) => assert!(rt; false),
+// Whether one act leads to these effects.
+fn leads_to(alloc: Global, coord: &mut Coord, act: Act, want: &str) -> Result<bool, TreeFault> {
+    let mut outs = Effects::new(alloc);
+    if !acts(alloc, coord, act, &Records::new(alloc), &mut outs)? {
+        return Ok(want == "void");
     }
-    Ok(())
+    Ok(text(alloc, &outs)?.as_slice() == want.as_bytes())
+}
+
+// Whether each act leads to the effects that are wanted; not where memory is wanting.
+fn are_so(alloc: Global, acts: &[(Act, &str)]) -> bool {
+    let mut coord = Coord::new(alloc, 2, 1);
+    for (one, want) in acts {
+        if !leads_to(alloc, &mut coord, *one, want).unwrap_or(false) {
+            return false;
+        }
+    }
+    true
 }
 
 #[test]
-fn a_call_that_is_given_up(rt: HostRuntime) -> Result<(), Fail> {
-    match are_so(rt.alloc(), GIVEN_UP) {
-        Ok(same) => assert!(rt; same),
-        Err(_) => assert!(rt; false),
-    }
-    Ok(())
+fn a_call_and_its_commit(rt: HostRuntime) {
+    assert!(rt; are_so(rt.alloc(), WHOLE));
+}
+
+#[test]
+fn a_call_that_is_given_up(rt: HostRuntime) {
+    assert!(rt; are_so(rt.alloc(), GIVEN_UP));
 }

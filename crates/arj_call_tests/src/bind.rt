@@ -2,7 +2,7 @@
 use arj_base::{
     Binding, Bytes, Class, Ends, Format, Mode, NodeList, ObjectState, Path, Uid, object_uid,
 };
-use arj_bind::{CallEnd, CallStep, CallSteps, Goal, Keeping};
+use arj_bind::{CallEnd, CallStep, CallSteps, Goal, Keeping, Known};
 use arj_class::{Answer, Op};
 use arj_msg::{
     Activated, Asked, Bound, BoundReply, Invoked, InvokedReply, Loaded, LoadedReply, Message,
@@ -347,91 +347,146 @@ fn message(alloc: Global, told: Told, asked: Asked) -> Result<Message, AllocErro
     })
 }
 
-// A request with its number and node, and what it says.
-fn request_text(alloc: Global, node: u8, request: &Message) -> Result<String, AllocError> {
+// Puts a number behind a space.
+fn put_number(text: &mut Bytes, number: u32) -> Result<(), AllocError> {
+    text.extend(b" ")?;
+    text.extend_decimal(u64::from(number))
+}
+
+// Puts a number behind a point.
+fn put_part(text: &mut Bytes, number: u32) -> Result<(), AllocError> {
+    text.extend(b".")?;
+    text.extend_decimal(u64::from(number))
+}
+
+// Puts a binding behind a space.
+fn put_binding(text: &mut Bytes, binding: Binding) -> Result<(), AllocError> {
+    put_number(text, binding.inc)?;
+    put_part(text, binding.count)
+}
+
+// Puts a request's number, its word and its node.
+fn put_head(text: &mut Bytes, req: u32, word: &str, node: u8) -> Result<(), AllocError> {
+    text.extend_decimal(u64::from(req))?;
+    text.extend(b" ")?;
+    text.extend(word.as_bytes())?;
+    put_number(text, u32::from(node))
+}
+
+// Puts a request with its number and node, and what it says.
+fn put_message(text: &mut Bytes, node: u8, request: &Message) -> Result<(), AllocError> {
     match request {
         Message::Bind(m) => {
             let word = if m.include { "include" } else { "bind" };
-            let (req, avoid) = (m.head.req, m.avoid);
-            format!(in alloc; "{req} {word} {node} {}.{}, ", avoid.inc, avoid.count)
+            put_head(text, m.head.req, word, node)?;
+            put_binding(text, m.avoid)
         }
-        Message::Load(m) => format!(in alloc; "{} load {node}, ", m.head.req),
+        Message::Load(m) => put_head(text, m.head.req, "load", node),
         Message::Activate(m) => {
-            let (req, b) = (m.head.req, m.binding);
-            format!(in alloc; "{req} activate {node} {}.{}, ", b.inc, b.count)
+            put_head(text, m.head.req, "activate", node)?;
+            put_binding(text, m.binding)
         }
         Message::RecordMsg(m) => {
-            let (req, b, i, n) = (m.head.req, m.binding, m.server_inc, m.naming_inc);
-            format!(in alloc; "{req} record {node} {}.{} {i} {n}, ", b.inc, b.count)
+            put_head(text, m.head.req, "record", node)?;
+            put_binding(text, m.binding)?;
+            put_number(text, m.server_inc)?;
+            put_number(text, m.naming_inc)
         }
         Message::Invoke(m) => {
-            let (req, b, i) = (m.head.req, m.binding, m.server_inc);
-            format!(in alloc; "{req} invoke {node} {}.{} {i}, ", b.inc, b.count)
+            put_head(text, m.head.req, "invoke", node)?;
+            put_binding(text, m.binding)?;
+            put_number(text, m.server_inc)
         }
-        _ => format!(in alloc; "another request, "),
+        _ => text.extend(b"another request"),
     }
 }
 
-fn end_text(alloc: Global, end: &CallEnd) -> Result<String, AllocError> {
+// Puts a conflict: the holder, its mode and the node.
+fn put_conflict(text: &mut Bytes, holder: Uid, mode: Mode, node: u8) -> Result<(), AllocError> {
+    text.extend(b"conflict")?;
+    put_number(text, holder.node)?;
+    put_part(text, holder.inc)?;
+    text.extend(b".")?;
+    text.extend_decimal(holder.num)?;
+    let mode = if mode == Mode::Read {
+        " read"
+    } else {
+        " write"
+    };
+    text.extend(mode.as_bytes())?;
+    put_number(text, u32::from(node))
+}
+
+// Puts what changed at a node.
+fn put_changed(text: &mut Bytes, node: u8, what: What) -> Result<(), AllocError> {
+    text.extend(b"changed")?;
+    put_number(text, u32::from(node))?;
+    match what {
+        What::Inc { had, now } => {
+            text.extend(b" inc")?;
+            put_number(text, had)?;
+            put_number(text, now)
+        }
+        What::Bind { had, now } => {
+            text.extend(b" bind")?;
+            put_binding(text, had)?;
+            put_binding(text, now)
+        }
+    }
+}
+
+// Puts the end of a call.
+fn put_end(text: &mut Bytes, end: &CallEnd) -> Result<(), AllocError> {
     match end {
-        CallEnd::Answered(_) => format!(in alloc; "answered; "),
-        CallEnd::Included(_) => format!(in alloc; "included; "),
-        CallEnd::Conflict { holder, mode, node } => {
-            let mode = match mode {
-                Mode::Read => "read",
-                _ => "write",
-            };
-            format!(in alloc;
-                "conflict {}.{}.{} {mode} {node}; ",
-                holder.node, holder.inc, holder.num
-            )
-        }
-        CallEnd::Changed { node, what } => match what {
-            What::Inc { had, now } => format!(in alloc; "changed {node} inc {had} {now}; "),
-            What::Bind { had, now } => {
-                format!(in alloc;
-                    "changed {node} bind {}.{} {}.{}; ",
-                    had.inc, had.count, now.inc, now.count
-                )
-            }
-        },
+        CallEnd::Answered(_) => text.extend(b"answered"),
+        CallEnd::Included(_) => text.extend(b"included"),
+        CallEnd::Conflict { holder, mode, node } => put_conflict(text, *holder, *mode, *node),
+        CallEnd::Changed { node, what } => put_changed(text, *node, *what),
         CallEnd::Lost { node, sent } => {
-            let sent = if *sent { " sent" } else { "" };
-            format!(in alloc; "lost {node}{sent}; ")
+            text.extend(b"lost")?;
+            put_number(text, u32::from(*node))?;
+            text.extend(if *sent {
+                b" sent".as_slice()
+            } else {
+                b"".as_slice()
+            })
         }
     }
 }
 
-// The binding that is kept, its server's incarnation, the stores, and whether it is recorded.
-fn put_kept(alloc: Global, text: &mut String, keeping: &Keeping) -> Result<(), AllocError> {
-    let Some(known) = keeping.kept() else {
-        return text.push_str("none");
-    };
-    let b = known.binding;
-    let bound = match known.inc {
-        Some(inc) => format!(in alloc; "{}.{} {inc} ", b.inc, b.count)?,
-        None => format!(in alloc; "{}.{} - ", b.inc, b.count)?,
-    };
-    text.push_str(bound.as_str())?;
+// Puts what is kept of a binding: its server's incarnation, if that is known, the stores, and whether it is recorded.
+fn put_known(text: &mut Bytes, known: &Known) -> Result<(), AllocError> {
+    put_binding(text, known.binding)?;
+    match known.inc {
+        Some(inc) => put_number(text, inc)?,
+        None => text.extend(b" -")?,
+    }
+    text.extend(b" ")?;
     for store in known.stores.as_slice() {
-        text.push_str(format!(in alloc; "{store}")?.as_str())?;
+        text.extend_decimal(u64::from(*store))?;
     }
-    if known.recorded {
-        text.push_str(" recorded")?;
-    }
-    Ok(())
+    text.extend(if known.recorded {
+        b" recorded".as_slice()
+    } else {
+        b"".as_slice()
+    })
 }
 
-fn put_keeping(alloc: Global, text: &mut String, keeping: &Keeping) -> Result<(), AllocError> {
-    put_kept(alloc, text, keeping)?;
+fn put_keeping(text: &mut Bytes, keeping: &Keeping) -> Result<(), AllocError> {
+    text.extend(b";")?;
+    match keeping.kept() {
+        Some(known) => put_known(text, known)?,
+        None => text.extend(b" none")?,
+    }
     if keeping.is_spoiled() {
-        text.push_str(" spoiled")?;
+        text.extend(b" spoiled")?;
     }
     let avoid = keeping.avoid();
-    if avoid.count != 0 {
-        text.push_str(format!(in alloc; " avoids {}.{}", avoid.inc, avoid.count)?.as_str())?;
+    if avoid.count == 0 {
+        return Ok(());
     }
-    Ok(())
+    text.extend(b" avoids")?;
+    put_binding(text, avoid)
 }
 
 fn start(alloc: Global, call: &Call, keeping: &mut Keeping) -> Result<CallSteps, AllocError> {
@@ -449,6 +504,32 @@ fn start(alloc: Global, call: &Call, keeping: &mut Keeping) -> Result<CallSteps,
     CallSteps::start(alloc, &path, 1, goal, known, keeping.avoid(), 1)
 }
 
+// The node that is asked. The request is let go here alone.
+fn asked_node(alloc: Global, steps: &CallSteps) -> Result<u8, AllocError> {
+    let (node, _) = steps.next(&Ends::new(alloc))?;
+    Ok(node)
+}
+
+// An answer to the request of this number, in memory of its own.
+fn boxed(alloc: Global, told: Told, req: u32) -> Result<Box<Message>, AllocError> {
+    let message = message(alloc, told, Asked { act: CALLER, req })?;
+    Ok(Box::new(alloc, message)?)
+}
+
+// An answer to the request of this number, and the node that it is from.
+fn answer(
+    alloc: Global,
+    steps: &CallSteps,
+    told: Told,
+    req: u32,
+) -> Result<(u8, Box<Message>), AllocError> {
+    let node = match told {
+        Told::Elsewhere => 9,
+        _ => asked_node(alloc, steps)?,
+    };
+    Ok((node, boxed(alloc, told, req)?))
+}
+
 // The steps go on by what they are told, as the answer to the request of this number.
 fn hear(
     alloc: Global,
@@ -458,60 +539,93 @@ fn hear(
     req: u32,
     keeping: &mut Keeping,
 ) -> Result<CallStep, AllocError> {
-    let (node, _) = steps.next(&Ends::new(alloc))?;
-    let from = match told {
-        Told::GiveUp => return Ok(steps.give_up(keeping)),
-        Told::Elsewhere => 9,
-        _ => node,
-    };
-    let asked = Asked { act: CALLER, req };
-    let message = Box::new(alloc, message(alloc, told, asked)?)?;
+    if matches!(told, Told::GiveUp) {
+        return Ok(steps.give_up(keeping));
+    }
+    let (from, message) = answer(alloc, &steps, told, req)?;
     match steps.answered(alloc, from, message, keeping, call.how.free) {
         Ok(step) => Ok(step),
         Err(_) => Err(AllocError),
     }
 }
 
-fn put_request(alloc: Global, text: &mut String, steps: &CallSteps) -> Result<(), AllocError> {
-    let (node, request) = steps.next(&Ends::new(alloc))?;
-    text.push_str(request_text(alloc, node, &request)?.as_str())
+// Puts a request, which is let go here alone.
+fn put_owned(text: &mut Bytes, node: u8, request: Message) -> Result<(), AllocError> {
+    put_message(text, node, &request)
 }
 
-// A call to its end.
-fn run(alloc: Global, call: &Call, keeping: &mut Keeping) -> Result<String, AllocError> {
-    let mut steps = start(alloc, call, keeping)?;
-    let mut text = String::new(alloc);
-    put_request(alloc, &mut text, &steps)?;
-    let mut req = 1u32;
-    for told in call.told {
-        match hear(alloc, steps, call, *told, req, keeping)? {
-            CallStep::On(next) => {
-                put_request(alloc, &mut text, &next)?;
-                req = req.saturating_add(1);
-                steps = next;
-            }
-            CallStep::Foreign(same) => {
-                text.push_str("foreign, ")?;
-                steps = same;
-            }
-            CallStep::Ended(end) => {
-                text.push_str(end_text(alloc, &end)?.as_str())?;
-                put_keeping(alloc, &mut text, keeping)?;
-                return Ok(text);
-            }
+fn put_request(alloc: Global, text: &mut Bytes, steps: &CallSteps) -> Result<(), AllocError> {
+    let (node, request) = steps.next(&Ends::new(alloc))?;
+    put_owned(text, node, request)?;
+    text.extend(b", ")
+}
+
+// Puts what a step leads to. The steps that go on, if some do, and how many requests more there are.
+fn followed(
+    alloc: Global,
+    step: CallStep,
+    keeping: &Keeping,
+    text: &mut Bytes,
+) -> Result<Option<(CallSteps, u32)>, AllocError> {
+    match step {
+        CallStep::On(next) => {
+            put_request(alloc, text, &next)?;
+            Ok(Some((next, 1)))
+        }
+        CallStep::Foreign(same) => {
+            text.extend(b"foreign, ")?;
+            Ok(Some((same, 0)))
+        }
+        CallStep::Ended(end) => {
+            put_end(text, &end)?;
+            put_keeping(text, keeping)?;
+            Ok(None)
         }
     }
-    Ok(text)
+}
+
+// Puts a call to its end.
+fn run(
+    alloc: Global,
+    call: &Call,
+    keeping: &mut Keeping,
+    text: &mut Bytes,
+) -> Result<(), AllocError> {
+    let mut steps = start(alloc, call, keeping)?;
+    put_request(alloc, text, &steps)?;
+    let mut req = 1u32;
+    for told in call.told {
+        let step = hear(alloc, steps, call, *told, req, keeping)?;
+        let Some((next, more)) = followed(alloc, step, keeping, text)? else {
+            return Ok(());
+        };
+        req = req.saturating_add(more);
+        steps = next;
+    }
+    Ok(())
+}
+
+fn is_so(alloc: Global, call: &Call, keeping: &mut Keeping) -> Result<bool, AllocError> {
+    let mut text = Bytes::new(alloc);
+    run(alloc, call, keeping, &mut text)?;
+    Ok(text.as_slice() == call.want.as_bytes())
+}
+
+// Whether the calls of a root, one after another, are as they should be.
+fn are_so(alloc: Global, root: &[Call]) -> Result<bool, AllocError> {
+    let mut keeping = Keeping::new();
+    for call in root {
+        if !is_so(alloc, call, &mut keeping)? {
+            return Ok(false);
+        }
+    }
+    Ok(true)
 }
 
 #[test]
 fn calls_of_roots(rt: HostRuntime) -> Result<(), Fail> {
-    for root in ROOTS {
-        let mut keeping = Keeping::new();
-        for call in *root {
-            let text = run(rt.alloc(), call, &mut keeping)?;
-            assert_eq!(rt; text.as_str(), call.want);
-        }
+    for (place, root) in ROOTS.iter().enumerate() {
+        assert!(rt; are_so(rt.alloc(), root)?, "root {place}");
     }
     Ok(())
 }

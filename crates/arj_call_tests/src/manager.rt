@@ -53,32 +53,61 @@ fn path(num: u64) -> Option<Path> {
 }
 
 // What the action with this number does with object 1.
-#[derive(Clone, Copy, Debug)]
+#[derive(Clone, Copy)]
 enum Step {
     Add(u64),
     Commit,
     Abort,
 }
 
-// The mode that was granted, or the holder and the mode that conflict.
-type Outcome = Result<Option<Mode>, (Uid, Mode)>;
+// A lock in mode write was granted, or the top 2 has one that conflicts, or neither is so.
+#[derive(Clone, Copy, PartialEq, Eq)]
+enum Outcome {
+    Granted,
+    Locked,
+    Nothing,
+    Other,
+}
 
-// Adds to object 1.
-fn add(manager: &mut StateManager, num: u64, n: u64) -> Option<Outcome> {
-    match manager.invoke(1, &path(num)?, &Op::Add(n)) {
-        Ok(ran) => Some(Ok(ran?.granted)),
-        Err(ManagerFault::Conflict { holder, mode }) => Some(Err((holder, mode))),
-        Err(_) => None,
+// What came of it, which is looked at only.
+fn outcome_of(ran: &Result<Option<Ran>, ManagerFault>) -> Outcome {
+    match ran {
+        Ok(Some(ran)) => match ran.granted {
+            Some(Mode::Write) => Outcome::Granted,
+            Some(_) => Outcome::Other,
+            None => Outcome::Nothing,
+        },
+        Err(
+            ManagerFault::Conflict {
+                holder,
+                mode: Mode::Write,
+            },
+        ) => {
+            if *holder == action(2) {
+                Outcome::Locked
+            } else {
+                Outcome::Other
+            }
+        }
+        _ => Outcome::Other,
     }
 }
 
-fn done(manager: &mut StateManager, num: u64, step: Step) -> Option<Outcome> {
+// Adds to object 1.
+fn add(manager: &mut StateManager, num: u64, n: u64) -> Outcome {
+    let Some(path) = path(num) else {
+        return Outcome::Other;
+    };
+    outcome_of(&manager.invoke(1, &path, &Op::Add(n)))
+}
+
+fn done(manager: &mut StateManager, num: u64, step: Step) -> Outcome {
     match step {
         Step::Add(n) => return add(manager, num, n),
         Step::Commit => manager.commit(action(num)),
         Step::Abort => manager.abort(action(num)),
     }
-    Some(Ok(None))
+    Outcome::Nothing
 }
 
 // The number that an object has in place.
@@ -90,7 +119,7 @@ fn number(manager: &StateManager, x: u16) -> Option<u64> {
 }
 
 // What the action with this number does with object 3, a counter that is gone at first.
-#[derive(Clone, Copy, Debug)]
+#[derive(Clone, Copy)]
 enum Deed {
     Get,
     Create(u64),
@@ -101,7 +130,7 @@ enum Deed {
 }
 
 // What it is answered.
-#[derive(Clone, Copy, Debug, PartialEq, Eq)]
+#[derive(Clone, Copy, PartialEq, Eq)]
 enum Reply {
     Number(u64),
     Done,
@@ -112,10 +141,10 @@ enum Reply {
     Other,
 }
 
-fn reply_of(done: Result<Option<Ran>, ManagerFault>) -> Reply {
+fn reply_of(done: &Result<Option<Ran>, ManagerFault>) -> Reply {
     match done {
-        Ok(Some(ran)) => match ran.answer {
-            Answer::Number(number) => Reply::Number(number),
+        Ok(Some(ran)) => match &ran.answer {
+            Answer::Number(number) => Reply::Number(*number),
             Answer::Done => Reply::Done,
             Answer::There => Reply::There,
             Answer::Gone => Reply::Gone,
@@ -129,7 +158,8 @@ fn reply_of(done: Result<Option<Ran>, ManagerFault>) -> Reply {
 fn operate(manager: &mut StateManager, num: u64, op: &Op) -> Option<Reply>
     requires { OpInForm op.now }
 {
-    Some(reply_of(manager.invoke(3, &path(num)?, op)))
+    let path = path(num)?;
+    Some(reply_of(&manager.invoke(3, &path, op)))
 }
 
 fn create(manager: &mut StateManager, num: u64, value: Value) -> Option<Reply> {
@@ -161,56 +191,115 @@ fn gone_counter(alloc: Global) -> Result<ObjectState, AllocError> {
     Ok(state)
 }
 
+// Who does what, what comes of it, and the number then in place.
+const STEPS: [(u64, Step, Outcome, u64); 11] = [
+    (2, Step::Add(1), Outcome::Granted, 11),
+    (4, Step::Add(5), Outcome::Granted, 16),
+    (4, Step::Commit, Outcome::Nothing, 16),
+    (5, Step::Add(100), Outcome::Granted, 116),
+    (5, Step::Abort, Outcome::Nothing, 16),
+    (3, Step::Add(2), Outcome::Nothing, 18),
+    (3, Step::Abort, Outcome::Nothing, 11),
+    (6, Step::Add(1), Outcome::Locked, 11),
+    (2, Step::Commit, Outcome::Nothing, 11),
+    (6, Step::Add(1), Outcome::Granted, 12),
+    (6, Step::Abort, Outcome::Nothing, 11),
+];
+
+// Whether object x has this number in place, or none.
+fn has_number(manager: &StateManager, x: u16, want: Option<u64>) -> bool {
+    number(manager, x) == want
+}
+
+fn steps_are_right(manager: &mut StateManager) -> bool {
+    for (num, step, want, then) in STEPS {
+        if done(manager, num, step) != want || !has_number(manager, 1, Some(then)) {
+            return false;
+        }
+    }
+    true
+}
+
 #[test]
 fn nested_actions_on_one_object(rt: HostRuntime) -> Result<(), Fail> {
-    let alloc = rt.alloc();
-    let Ok(mut manager) = two_counters(alloc) else {
+    let Ok(mut manager) = two_counters(rt.alloc()) else {
         return Err(Fail::new("not active"));
     };
-    let write = Ok(Some(Mode::Write));
-    let locked = Err((action(2), Mode::Write));
-    // who does what, what is answered, and the number then in place
-    let rows = [
-        (2, Step::Add(1), write, 11),
-        (4, Step::Add(5), write, 16),
-        (4, Step::Commit, Ok(None), 16),
-        (5, Step::Add(100), write, 116),
-        (5, Step::Abort, Ok(None), 16),
-        (3, Step::Add(2), Ok(None), 18),
-        (3, Step::Abort, Ok(None), 11),
-        (6, Step::Add(1), locked, 11),
-        (2, Step::Commit, Ok(None), 11),
-        (6, Step::Add(1), write, 12),
-        (6, Step::Abort, Ok(None), 11),
-    ];
-    for (num, step, want, then) in rows {
-        assert_eq!(rt; done(&mut manager, num, step), Some(want));
-        assert_eq!(rt; number(&manager, 1), Some(then));
-    }
+    assert!(rt; steps_are_right(&mut manager));
     Ok(())
+}
+
+// Whether this state alone is written, in this version by this top.
+fn is_written(states: &[ObjectState], want: &ObjectState, version: u64, top: Uid) -> bool {
+    let [state] = states else {
+        return false;
+    };
+    if state.uid != want.uid || state.class != want.class {
+        return false;
+    }
+    if state.version != version || state.writer != top {
+        return false;
+    }
+    state.payload.as_slice() == want.payload.as_slice()
+}
+
+// Whether the action votes so.
+fn votes_so(
+    alloc: Global,
+    manager: &StateManager,
+    top: Uid,
+    want: &ObjectState,
+    version: u64,
+) -> Result<bool, AllocError> {
+    let states = manager.changed_states(alloc, top)?;
+    Ok(is_written(states.as_slice(), want, version, top))
+}
+
+// Whether this action alone holds locks.
+fn is_holder(alloc: Global, manager: &StateManager, top: Uid) -> Result<bool, AllocError> {
+    Ok(
+        manager.held(alloc)?.as_slice() == [top].as_slice()
+            && manager.is_top(top)
+            && manager.holds(top),
+    )
 }
 
 #[test]
 fn a_top_votes_and_ends(rt: HostRuntime) -> Result<(), Fail> {
     let alloc = rt.alloc();
+    let want = counter(alloc, 1, 15)?;
     let Ok(mut manager) = two_counters(alloc) else {
         return Err(Fail::new("not active"));
     };
     done(&mut manager, 2, Step::Add(5));
-    let states = manager.changed_states(alloc, action(2))?;
-    let want = counter(alloc, 1, 15)?;
-    match states.as_slice() {
-        [state] => {
-            assert!(rt; state.uid == want.uid && state.version == 8 && state.writer == action(2));
-            assert_eq!(rt; state.payload.as_slice(), want.payload.as_slice());
-        }
-        _ => return Err(Fail::new("not one state")),
-    }
-    assert_eq!(rt; manager.held(alloc)?.as_slice(), [action(2)].as_slice());
-    assert!(rt; manager.is_top(action(2)) && manager.holds(action(2)));
+    assert!(rt; votes_so(alloc, &manager, action(2), &want, 8)?);
+    assert!(rt; is_holder(alloc, &manager, action(2))?);
     manager.commit(action(2));
     assert!(rt; !manager.is_top(action(2)) && !manager.holds(action(2)));
     Ok(())
+}
+
+// Whether an operation that the class lacks is refused, and one on an object that isn't there is answered by none.
+fn faults_are_told(manager: &mut StateManager) -> bool {
+    let top = Path::new(action(2));
+    let wrong = manager.invoke(1, &top, &Op::Pop);
+    let none = manager.invoke(3, &top, &Op::Get);
+    matches!(&wrong, Err(ManagerFault::WrongOp)) && matches!(&none, Ok(None))
+}
+
+// Whether a payload that is none of a counter is refused.
+fn payloads_are_tested(alloc: Global, manager: &mut StateManager) -> Result<bool, AllocError> {
+    let mut short = counter(alloc, 3, 1)?;
+    short.payload = Bytes::new(alloc);
+    let refused = manager.activate(alloc, 3, BINDING, &short);
+    Ok(matches!(&refused, Err(ManagerFault::Payload)))
+}
+
+// Whether object 1 is activated again, at 30. Its locks go.
+fn comes_again(alloc: Global, manager: &mut StateManager) -> Result<bool, AllocError> {
+    done(manager, 2, Step::Add(1));
+    let again = manager.activate(alloc, 1, BINDING, &counter(alloc, 1, 30)?);
+    Ok(again.is_ok() && !manager.holds(action(2)) && has_number(manager, 1, Some(30)))
 }
 
 #[test]
@@ -219,22 +308,37 @@ fn faults_and_copies_that_go(rt: HostRuntime) -> Result<(), Fail> {
     let Ok(mut manager) = two_counters(alloc) else {
         return Err(Fail::new("not active"));
     };
-    let top = Path::new(action(2));
-    let wrong = manager.invoke(1, &top, &Op::Pop);
-    assert!(rt; matches!(wrong, Err(ManagerFault::WrongOp)));
-    assert!(rt; matches!(manager.invoke(3, &top, &Op::Get), Ok(None)));
-    let mut short = counter(alloc, 3, 1)?;
-    short.payload = Bytes::new(alloc);
-    let payload = manager.activate(alloc, 3, BINDING, &short);
-    assert!(rt; matches!(payload, Err(ManagerFault::Payload)));
-    done(&mut manager, 2, Step::Add(1));
-    let again = manager.activate(alloc, 1, BINDING, &counter(alloc, 1, 30)?);
-    assert!(rt; again.is_ok() && !manager.holds(action(2)));
-    assert_eq!(rt; number(&manager, 1), Some(30));
+    assert!(rt; faults_are_told(&mut manager));
+    assert!(rt; payloads_are_tested(alloc, &mut manager)?);
+    assert!(rt; comes_again(alloc, &mut manager)?);
     manager.deactivate(1);
-    assert_eq!(rt; number(&manager, 1), None);
-    assert_eq!(rt; number(&manager, 2), Some(20));
+    assert!(rt; has_number(&manager, 1, None) && has_number(&manager, 2, Some(20)));
     Ok(())
+}
+
+// Who does what with object 3, what is answered, and the number then in place, none where the object is gone.
+const DEEDS: [(u64, Deed, Reply, Option<u64>); 12] = [
+    (2, Deed::Get, Reply::Gone, None),
+    (2, Deed::CreateAccount, Reply::WrongOp, None),
+    (2, Deed::Create(7), Reply::Done, Some(7)),
+    (3, Deed::Destroy, Reply::Done, None),
+    (3, Deed::Destroy, Reply::Gone, None),
+    (3, Deed::Abort, Reply::Ended, Some(7)),
+    (2, Deed::Create(9), Reply::There, Some(7)),
+    (2, Deed::CreateAccount, Reply::WrongOp, Some(7)),
+    (2, Deed::Get, Reply::Number(7), Some(7)),
+    (2, Deed::Commit, Reply::Ended, Some(7)),
+    (6, Deed::Destroy, Reply::Done, None),
+    (6, Deed::Get, Reply::Gone, None),
+];
+
+fn deeds_are_right(manager: &mut StateManager) -> bool {
+    for (num, deed, want, then) in DEEDS {
+        if act(manager, num, deed) != Some(want) || !has_number(manager, 3, then) {
+            return false;
+        }
+    }
+    true
 }
 
 #[test]
@@ -243,32 +347,7 @@ fn an_object_comes_and_goes(rt: HostRuntime) -> Result<(), Fail> {
     let gone = gone_counter(alloc)?;
     let mut manager = StateManager::new(alloc);
     assert!(rt; manager.activate(alloc, 3, BINDING, &gone).is_ok());
-    // who does what, what is answered, and the number then in place, none where the object is gone
-    let rows = [
-        (2, Deed::Get, Reply::Gone, None),
-        (2, Deed::CreateAccount, Reply::WrongOp, None),
-        (2, Deed::Create(7), Reply::Done, Some(7)),
-        (3, Deed::Destroy, Reply::Done, None),
-        (3, Deed::Destroy, Reply::Gone, None),
-        (3, Deed::Abort, Reply::Ended, Some(7)),
-        (2, Deed::Create(9), Reply::There, Some(7)),
-        (2, Deed::CreateAccount, Reply::WrongOp, Some(7)),
-        (2, Deed::Get, Reply::Number(7), Some(7)),
-        (2, Deed::Commit, Reply::Ended, Some(7)),
-        (6, Deed::Destroy, Reply::Done, None),
-        (6, Deed::Get, Reply::Gone, None),
-    ];
-    for (num, deed, want, then) in rows {
-        assert_eq!(rt; act(&mut manager, num, deed), Some(want));
-        assert_eq!(rt; number(&manager, 3), then);
-    }
-    let states = manager.changed_states(alloc, action(6))?;
-    match states.as_slice() {
-        [state] => {
-            assert!(rt; state.class == Class::Gone && state.version == 9);
-            assert_eq!(rt; state.payload.as_slice(), gone.payload.as_slice());
-        }
-        _ => return Err(Fail::new("not one state")),
-    }
+    assert!(rt; deeds_are_right(&mut manager));
+    assert!(rt; votes_so(alloc, &manager, action(6), &gone, 9)?);
     Ok(())
 }

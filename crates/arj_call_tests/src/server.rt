@@ -10,7 +10,7 @@ use arj_base::{
     Binding, Bytes, Class, End, Ends, Format, Mode, ObjectState, Path, Uid, object_uid,
 };
 use arj_class::{Answer, Counter, Op, Value};
-use arj_journal::{Body, Lines, Part};
+use arj_journal::{Body, Line, Lines, Part};
 use arj_msg::{
     Activate, Activated, Binds, Head, Invoke, Invoked, InvokedReply, Told, Vote, Voted, VotedReply,
     What,
@@ -41,7 +41,7 @@ enum Ask {
 }
 
 // What it answers, actions by their numbers.
-#[derive(Clone, Copy, Debug, PartialEq, Eq)]
+#[derive(Clone, Copy, PartialEq, Eq)]
 enum Seen {
     Void,
     Incarnation(u32),
@@ -171,15 +171,17 @@ fn activate(
     requires { IsOfClass 1 class.Counter server.old }
     ensures { OnOk result (IsOfClass 1 class.Counter server.new) }
 {
+    let head = head(step)?;
+    let payload = payload(alloc)?;
     let m = Activate {
-        head: head(step)?,
+        head,
         binding: binding(count),
         state: ObjectState {
             uid: object_uid(1),
             class: Class::Counter,
             version: 7,
             writer: action(9),
-            payload: payload(alloc)?,
+            payload,
             format: Format::Two,
         },
     };
@@ -201,25 +203,33 @@ fn invoke(
     requires class { IsOfClass 1 class.Counter server.old }
     ensures { OnOk result (IsOfClass 1 class.Counter server.new) }
 {
+    let head = head(step)?;
+    let ends = ends(alloc, step)?;
     let m = Invoke {
-        head: head(step)?,
+        head,
         x: 1,
         binding: binding(2),
         server_inc: INC,
-        ends: ends(alloc, step)?,
+        ends,
         op,
     };
-    Ok(match operate(server, &m, out)? {
-        None => Seen::Void,
-        Some(answer) => match answer.reply {
-            InvokedReply::Answered(Answer::Done) => Seen::Done,
-            InvokedReply::Answered(Answer::Number(number)) => Seen::Number(number),
-            InvokedReply::Answered(Answer::There) => Seen::There,
-            InvokedReply::Answered(Answer::Gone) => Seen::Gone,
-            InvokedReply::Conflict { holder, .. } => Seen::Locked(holder.num),
-            _ => Seen::Other,
-        },
-    })
+    let answer = operate(server, &m, out)?;
+    Ok(invoked(&answer))
+}
+
+// An answer to an Invoke, which is looked at only.
+fn invoked(answer: &Option<Invoked>) -> Seen {
+    let Some(answer) = answer else {
+        return Seen::Void;
+    };
+    match &answer.reply {
+        InvokedReply::Answered(Answer::Done) => Seen::Done,
+        InvokedReply::Answered(Answer::Number(number)) => Seen::Number(*number),
+        InvokedReply::Answered(Answer::There) => Seen::There,
+        InvokedReply::Answered(Answer::Gone) => Seen::Gone,
+        InvokedReply::Conflict { holder, .. } => Seen::Locked(holder.num),
+        _ => Seen::Other,
+    }
 }
 
 // The state of a yes is told by the last byte of its payload, which is a gone object's class, its version and its writer.
@@ -235,20 +245,27 @@ fn vote(
 {
     let mut objects = Binds::new(alloc);
     objects.push((1, binding(2)))?;
+    let ends = ends(alloc, step)?;
     let m = Vote {
         head: head(step)?,
         server_inc: inc,
         objects,
-        ends: ends(alloc, step)?,
+        ends,
     };
-    Ok(match poll(server, &m, out)? {
-        None => Seen::Void,
-        Some(answer) => match answer.reply {
-            VotedReply::Yes(states) => state_of(states.as_slice()),
-            VotedReply::Changed(What::Inc { now, .. }) => Seen::Incarnation(now),
-            VotedReply::Changed(_) => Seen::Other,
-        },
-    })
+    let answer = poll(server, &m, out)?;
+    Ok(voted(&answer))
+}
+
+// An answer to a Vote, which is looked at only.
+fn voted(answer: &Option<Voted>) -> Seen {
+    let Some(answer) = answer else {
+        return Seen::Void;
+    };
+    match &answer.reply {
+        VotedReply::Yes(states) => state_of(states.as_slice()),
+        VotedReply::Changed(What::Inc { now, .. }) => Seen::Incarnation(*now),
+        VotedReply::Changed(_) => Seen::Other,
+    }
 }
 
 fn state_of(states: &[ObjectState]) -> Seen {
@@ -353,23 +370,30 @@ fn short(body: &Body) -> u64 {
     }
 }
 
-// The number of the first step that is answered otherwise, counted from 0, and the lines in short.
-fn played(alloc: Global, steps: &[Step]) -> Result<(usize, Vec<u64>), AllocError> {
+// Whether the lines are these in short.
+fn are_lines(lines: &[Line], want: &[u64]) -> bool {
+    if lines.len() != want.len() {
+        return false;
+    }
+    for (line, one) in lines.iter().zip(want) {
+        if short(&line.body) != *one {
+            return false;
+        }
+    }
+    true
+}
+
+// Whether each step is answered so, with these lines in short.
+fn is_played_so(alloc: Global, steps: &[Step], want: &[u64]) -> Result<bool, AllocError> {
     classes_stay();
     let mut server = Server::new(alloc, INC);
     let mut out = Lines::new(alloc);
-    let mut right = 0;
     for step in steps {
         if play(alloc, &mut server, step, &mut out)? != step.want {
-            break;
+            return Ok(false);
         }
-        right += 1;
     }
-    let mut lines = Vec::new(alloc);
-    for line in out.as_slice() {
-        lines.push(short(&line.body))?;
-    }
-    Ok((right, lines))
+    Ok(are_lines(out.as_slice(), want))
 }
 
 #[test]
@@ -388,9 +412,7 @@ fn a_repeat_has_one_effect_and_the_same_answer(rt: HostRuntime) -> Result<(), Fa
         asked([2, 0, 0], 7, 0, Ask::Add(7), Seen::Void),
         asked([6, 0, 0], 2, 0, Ask::Get, Seen::Number(10)),
     ];
-    let (right, lines) = played(rt.alloc(), &steps)?;
-    assert_eq!(rt; right, steps.len());
-    assert_eq!(rt; lines.as_slice(), [0, 2, 62, 26].as_slice());
+    assert!(rt; is_played_so(rt.alloc(), &steps, &[0, 2, 62, 26])?);
     Ok(())
 }
 
@@ -408,10 +430,7 @@ fn three_deep_with_ends_between(rt: HostRuntime) -> Result<(), Fail> {
         asked([2, 0, 0], 0, 0, Ask::Told(End::Commit), Seen::Done),
         asked([6, 0, 0], 1, 0, Ask::Get, Seen::Number(11)),
     ];
-    let (right, lines) = played(rt.alloc(), &steps)?;
-    assert_eq!(rt; right, steps.len());
-    let want = [0, 2, 4, 44, 5, 65, 63, 42, 26];
-    assert_eq!(rt; lines.as_slice(), want.as_slice());
+    assert!(rt; is_played_so(rt.alloc(), &steps, &[0, 2, 4, 44, 5, 65, 63, 42, 26])?);
     Ok(())
 }
 
@@ -426,9 +445,7 @@ fn a_commit_without_a_vote_is_an_abort(rt: HostRuntime) -> Result<(), Fail> {
         asked([2, 0, 0], 2, 0, Ask::Held, Seen::Void),
         asked([6, 0, 0], 1, 0, Ask::Get, Seen::Number(10)),
     ];
-    let (right, lines) = played(rt.alloc(), &steps)?;
-    assert_eq!(rt; right, steps.len());
-    assert_eq!(rt; lines.as_slice(), [0, 2, 62, 26].as_slice());
+    assert!(rt; is_played_so(rt.alloc(), &steps, &[0, 2, 62, 26])?);
     Ok(())
 }
 
@@ -451,8 +468,6 @@ fn an_object_comes_and_goes(rt: HostRuntime) -> Result<(), Fail> {
         asked([6, 0, 0], 2, 0, Ask::Create(9), Seen::Done),
         asked([6, 0, 0], 3, 0, Ask::Vote(INC), Seen::State(9, 9, 6)),
     ];
-    let (right, lines) = played(rt.alloc(), &steps)?;
-    assert_eq!(rt; right, steps.len());
-    assert_eq!(rt; lines.as_slice(), [0, 2, 3, 63, 42, 26, 6].as_slice());
+    assert!(rt; is_played_so(rt.alloc(), &steps, &[0, 2, 3, 63, 42, 26, 6])?);
     Ok(())
 }

@@ -1,7 +1,7 @@
 // Trees of node 1 in incarnation 1, with the refusals and the Uids of worked runs.
 use arj_base::{End, Uid};
 use arj_tree::{Kind, Tree, TreeFault};
-use std::alloc::Global;
+use std::alloc::AllocError;
 use std::test::Fail;
 
 // One call, on actions by their numbers.
@@ -62,16 +62,6 @@ fn done(tree: &mut Tree, step: &Step) -> Result<(), TreeFault> {
     }
 }
 
-// Makes the calls, and finds the place of the first that answers another thing.
-fn first_other(tree: &mut Tree, steps: &[(Step, Option<TreeFault>)]) -> Option<usize> {
-    for i in 0..steps.len() {
-        if done(tree, &steps[i].0).err() != steps[i].1 {
-            return Some(i);
-        }
-    }
-    None
-}
-
 // Nests an action in each of those from the second on, fifteen times.
 fn nest_fifteen(tree: &mut Tree) -> Result<(), TreeFault> {
     for parent in 2..17u64 {
@@ -96,17 +86,29 @@ fn use_all(tree: &mut Tree) -> Result<(), TreeFault> {
     Ok(())
 }
 
+// Whether these calls answer so.
+fn answers(tree: &mut Tree, steps: &[(Step, Option<TreeFault>)]) -> bool {
+    for (step, want) in steps {
+        if done(tree, step).err() != *want {
+            return false;
+        }
+    }
+    true
+}
+
 #[test]
-fn each_refusal_in_order_of_numbers(rt: HostRuntime) -> Result<(), Fail> {
+fn each_refusal_in_order_of_numbers(rt: HostRuntime) {
     let mut tree = Tree::new(rt.alloc(), 1, 1);
+    assert!(rt; refuses_in_order(&mut tree));
+}
+
+fn refuses_in_order(tree: &mut Tree) -> bool {
     let first = [
         (Step::Top, None),
         (Step::Commit(1), None),
         (Step::Use(1, 1), Some(TreeFault::Ended)),
         (Step::Top, None),
     ];
-    assert_eq!(rt; first_other(&mut tree, &first), None);
-    assert_eq!(rt; nest_fifteen(&mut tree), Ok(()));
     let then = [
         (Step::Commit(2), Some(TreeFault::OpenChildren)),
         (Step::Nest(17), Some(TreeFault::TooDeep)),
@@ -115,12 +117,11 @@ fn each_refusal_in_order_of_numbers(rt: HostRuntime) -> Result<(), Fail> {
         (Step::Use(17, 1), Some(TreeFault::Doomed)),
         (Step::Use(18, 1), Some(TreeFault::Ended)),
     ];
-    assert_eq!(rt; first_other(&mut tree, &then), None);
-    Ok(())
+    answers(tree, &first) && nest_fifteen(tree).is_ok() && answers(tree, &then)
 }
 
 #[test]
-fn refusals_of_a_serializing_action(rt: HostRuntime) -> Result<(), Fail> {
+fn refusals_of_a_serializing_action(rt: HostRuntime) {
     let mut tree = Tree::new(rt.alloc(), 1, 1);
     let steps = [
         (Step::Serial, None),
@@ -131,16 +132,16 @@ fn refusals_of_a_serializing_action(rt: HostRuntime) -> Result<(), Fail> {
         (Step::Independent(1), Some(TreeFault::Ended)),
         (Step::Commit(1), Some(TreeFault::Ended)),
     ];
-    assert_eq!(rt; first_other(&mut tree, &steps), None);
-    Ok(())
+    assert!(rt; answers(&mut tree, &steps));
 }
 
 #[test]
-fn limits_of_a_root(rt: HostRuntime) -> Result<(), Fail> {
+fn limits_of_a_root(rt: HostRuntime) {
     let mut tree = Tree::new(rt.alloc(), 1, 1);
-    assert_eq!(rt; begin(&mut tree, Kind::Top, None), Ok(()));
-    assert_eq!(rt; nest_all(&mut tree), Ok(()));
-    assert_eq!(rt; use_all(&mut tree), Ok(()));
+    assert!(rt; has_limits(&mut tree));
+}
+
+fn has_limits(tree: &mut Tree) -> bool {
     let steps = [
         (Step::Nest(64), Some(TreeFault::TooMany)),
         (Step::Independent(64), None),
@@ -148,12 +149,14 @@ fn limits_of_a_root(rt: HostRuntime) -> Result<(), Fail> {
         (Step::Use(64, 16), None),
         (Step::Use(65, 17), None),
     ];
-    assert_eq!(rt; first_other(&mut tree, &steps), None);
-    Ok(())
+    begin(tree, Kind::Top, None).is_ok()
+        && nest_all(tree).is_ok()
+        && use_all(tree).is_ok()
+        && answers(tree, &steps)
 }
 
 // A serializing action 1, in it a constituent 2 with 3 and 6 nested, 4 nested in 3, and 5 independent of it.
-fn grow(tree: &mut Tree) -> Option<usize> {
+fn grows(tree: &mut Tree) -> bool {
     let steps = [
         (Step::Serial, None),
         (Step::Constituent(1), None),
@@ -162,37 +165,51 @@ fn grow(tree: &mut Tree) -> Option<usize> {
         (Step::Independent(3), None),
         (Step::Nest(2), None),
     ];
-    first_other(tree, &steps)
+    answers(tree, &steps)
+}
+
+// Whether these are open below action 2, the last begun first.
+fn has_open(tree: &Tree) -> Result<bool, AllocError> {
+    let open = tree.open_below(action(2))?;
+    Ok(open.as_slice() == [action(6), action(4), action(3)].as_slice())
+}
+
+// Whether that is the latest open action below action 3.
+fn is_latest(tree: &Tree, latest: Option<Uid>) -> bool {
+    tree.latest_below(action(3)) == latest
 }
 
 #[test]
 fn what_is_open(rt: HostRuntime) -> Result<(), Fail> {
     let mut tree = Tree::new(rt.alloc(), 1, 1);
-    assert_eq!(rt; grow(&mut tree), None);
-    let open = tree.open_below(action(2))?;
-    assert_eq!(rt;
-        open.as_slice(),
-        [action(6), action(4), action(3)].as_slice()
+    assert!(rt; grows(&mut tree) && has_open(&tree)?);
+    assert!(rt;
+        is_latest(&tree, Some(action(4)))
+            && done(&mut tree, &Step::Commit(4)).is_ok()
+            && is_latest(&tree, None)
+            && tree.kind(action(5)) == Some(Kind::Independent)
     );
-    assert_eq!(rt; tree.latest_below(action(3)), Some(action(4)));
-    assert_eq!(rt; done(&mut tree, &Step::Commit(4)), Ok(()));
-    assert_eq!(rt; tree.latest_below(action(3)), None);
-    assert_eq!(rt; tree.kind(action(5)), Some(Kind::Independent));
     Ok(())
 }
 
-#[test]
-fn what_survives(rt: HostRuntime) -> Result<(), Fail> {
-    let mut tree = Tree::new(rt.alloc(), 1, 1);
-    assert_eq!(rt; grow(&mut tree), None);
-    assert_eq!(rt; done(&mut tree, &Step::Commit(4)), Ok(()));
+// Whether 4 is merged into 3 and not into 2, and is spent once 3 has aborted.
+fn survives(tree: &mut Tree) -> bool {
     let path = [action(1), action(2), action(3), action(4)];
-    assert!(rt; tree.is_merged(action(3), path.as_slice()));
-    assert!(rt; !tree.is_merged(action(2), path.as_slice()));
-    assert!(rt; !tree.is_spent(path.as_slice()));
-    assert_eq!(rt; done(&mut tree, &Step::Abort(3)), Ok(()));
-    assert!(rt; tree.is_spent(path.as_slice()));
+    if !grows(tree) || done(tree, &Step::Commit(4)).is_err() {
+        return false;
+    }
+    if !tree.is_merged(action(3), path.as_slice()) || tree.is_merged(action(2), path.as_slice()) {
+        return false;
+    }
+    !tree.is_spent(path.as_slice())
+        && done(tree, &Step::Abort(3)).is_ok()
+        && tree.is_spent(path.as_slice())
+}
+
+#[test]
+fn what_survives(rt: HostRuntime) {
+    let mut tree = Tree::new(rt.alloc(), 1, 1);
     let ends = [(action(4), End::Commit), (action(3), End::Abort)];
-    assert_eq!(rt; tree.ends(action(1)).as_slice(), ends.as_slice());
-    Ok(())
+    assert!(rt; survives(&mut tree));
+    assert!(rt; tree.ends(action(1)).as_slice() == ends.as_slice());
 }
