@@ -1,5 +1,5 @@
 // What is said of a journal that was checked.
-use crate::errors::{known_line, line_at};
+use crate::errors::{known_line, line_at, say};
 use crate::shown::Shown;
 use arj_check::Verdict;
 use arj_checking::{Finding, Half, JOURNAL_LINE_BYTES, JOURNAL_LINES};
@@ -43,7 +43,7 @@ fn bad_script(
     input: Option<&[u8]>,
 ) -> io::Result<()> {
     if let BadLine::Missing = why {
-        return eprintln!(rt; "arjuna: the input ended before the line `journal`");
+        return say(rt, "the input ended before the line `journal`");
     }
     match input {
         Some(script) => known_line(rt, alloc, why, script, number),
@@ -72,8 +72,9 @@ fn bad_journal(
         "arjuna: line {number} of the input is no journal line: `{}`",
         Shown(line)
     )?;
-    eprintln!(rt;
-        "arjuna: expected here: a number, and what happened, in one of the forms of docs/FORMATS.md, \"Journal\""
+    say(
+        rt,
+        "expected here: a number, and what happened, in one of the forms of docs/FORMATS.md, \"Journal\"",
     )
 }
 

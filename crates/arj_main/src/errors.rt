@@ -47,11 +47,23 @@ pub fn explain(rt: &impl Eprint, alloc: Global, status: u8, ran: &Ran) -> io::Re
         0 => refusals(rt, ran.journal),
         1 => help(rt, ran.gave_file),
         2 => bad_line(rt, alloc, ran),
-        3 => eprintln!(rt; "arjuna: standard input could not be read"),
-        4 => eprintln!(rt; "arjuna: standard output could not be written"),
         6 => limit(rt, ran, last),
-        7 => stopped_disk(rt, ran.images, last),
-        _ => eprintln!(rt; "arjuna: out of memory"),
+        7 => say(rt, stopped_disk(ran.images, last)),
+        _ => say(rt, fault_words(status)),
+    }
+}
+
+/// Says these words on standard error.
+pub fn say(rt: &impl Eprint, words: &str) -> io::Result<()> {
+    eprintln!(rt; "arjuna: {words}")
+}
+
+// What ended a run from outside, by its status.
+fn fault_words(status: u8) -> &'static str {
+    match status {
+        3 => "standard input could not be read",
+        4 => "standard output could not be written",
+        _ => "out of memory",
     }
 }
 
@@ -72,17 +84,17 @@ fn refusals(rt: &impl Eprint, journal: &[Line]) -> io::Result<()> {
 }
 
 // A disk stops a run only before its first event, or behind its last one, as a bank's balances or an image's files are read.
-fn stopped_disk(rt: &impl Eprint, images: bool, last: Option<&Line>) -> io::Result<()> {
+fn stopped_disk(images: bool, last: Option<&Line>) -> &'static str {
     match last {
-        None => eprintln!(rt; "arjuna: a disk stopped while it was formatted"),
-        Some(_) if images => eprintln!(rt; "arjuna: a disk stopped while its files were read"),
-        Some(_) => eprintln!(rt; "arjuna: a disk stopped while the balances were read"),
+        None => "a disk stopped while it was formatted",
+        Some(_) if images => "a disk stopped while its files were read",
+        Some(_) => "a disk stopped while the balances were read",
     }
 }
 
 fn bad_line(rt: &impl Eprint, alloc: Global, ran: &Ran) -> io::Result<()> {
     let Some(why) = ran.why else {
-        return eprintln!(rt; "arjuna: a line of the script is bad");
+        return say(rt, "a line of the script is bad");
     };
     let Some(number) = number_of(ran.journal.last()) else {
         return eprintln!(rt; "arjuna: a line of the script is {why}");
@@ -106,7 +118,7 @@ pub fn known_line(
 ) -> io::Result<()> {
     let place = place_of_line(alloc, script, number as usize);
     if let BadLine::Missing = why {
-        eprintln!(rt; "arjuna: the input ended before `run`")?;
+        say(rt, "the input ended before `run`")?;
         return expected(rt, place.as_ref(), &[]);
     }
     let line = line_at(script, number);
@@ -135,21 +147,24 @@ pub fn line_at(script: &[u8], number: u32) -> &[u8] {
     }
 }
 
+/// What is told where the line `nodes` should stand.
+pub const EXPECTED_FIRST: &str =
+    "expected here: `nodes N`, with N from 1 to 16, before anything but blank lines and comments";
+
 // What could stand at a place, in the line of that form if the line begins as one does.
 fn expected(rt: &impl Eprint, place: Option<&Place>, line: &[u8]) -> io::Result<()> {
     match place {
         None => Ok(()),
-        Some(Place::Start) => eprintln!(rt;
-            "arjuna: expected here: `nodes N`, with N from 1 to 16, before anything but blank lines and comments"
-        ),
+        Some(Place::Start) => say(rt, EXPECTED_FIRST),
         Some(Place::Header(header)) if is(word_at(line, 0), b"object") => {
             let nodes = header.nodes;
             eprintln!(rt;
                 "arjuna: expected here: `object X CLASS VALUE servers LIST stores LIST`, with X from 1 to 256, and in the lists nodes from 1 to {nodes}"
             )
         }
-        Some(Place::Header(_)) => eprintln!(rt;
-            "arjuna: expected here: `object X CLASS VALUE servers LIST stores LIST`, or `run`; before all objects also `format 1`"
+        Some(Place::Header(_)) => say(
+            rt,
+            "expected here: `object X CLASS VALUE servers LIST stores LIST`, or `run`; before all objects also `format 1`",
         ),
         Some(Place::Running) => expected_event(rt, word_at(line, 0)),
     }
@@ -160,8 +175,9 @@ fn expected_event(rt: &impl Eprint, first: &[u8]) -> io::Result<()> {
         Some(form) => eprintln!(rt;
             "arjuna: expected here: `{form}` (docs/FORMATS.md, \"Script\")"
         ),
-        None => eprintln!(rt;
-            "arjuna: expected here: an event, which begins with begin, top, serial, call, include, commit, abort, giveup, deliver, lose, tick, settle, quiesce, crash, restart, stop, junk or show"
+        None => say(
+            rt,
+            "expected here: an event, which begins with begin, top, serial, call, include, commit, abort, giveup, deliver, lose, tick, settle, quiesce, crash, restart, stop, junk or show",
         ),
     }
 }
@@ -176,24 +192,28 @@ fn number_of(last: Option<&Line>) -> Option<u32>
     }
 }
 
+// What there is too much of.
+fn limit_words(which: &Which) -> &'static str {
+    match which {
+        Which::Lines => "100000 script lines",
+        Which::Labels => "4096 labels",
+        Which::Frames => "100000 frames",
+    }
+}
+
 fn limit(rt: &impl Eprint, ran: &Ran, last: Option<&Line>) -> io::Result<()> {
-    if let Some(line) = last {
-        if let Body::Limit { which } = &line.body {
-            let event = line.event;
-            return match which {
-                Which::Lines if ran.programs => many_lines(rt),
-                Which::Lines if ran.images => many_image_lines(rt),
-                Which::Lines => eprintln!(rt;
-                    "arjuna: more than 100000 script lines, after event {event}"
-                ),
-                Which::Labels => eprintln!(rt;
-                    "arjuna: more than 4096 labels, after event {event}"
-                ),
-                Which::Frames => eprintln!(rt;
-                    "arjuna: more than 100000 frames, after event {event}"
-                ),
-            };
+    let Some(line) = last else {
+        return say(rt, "a limit was met");
+    };
+    let Body::Limit { which } = &line.body else {
+        return say(rt, "a limit was met");
+    };
+    match which {
+        Which::Lines if ran.programs => many_lines(rt),
+        Which::Lines if ran.images => many_image_lines(rt),
+        _ => {
+            let (event, words) = (line.event, limit_words(which));
+            eprintln!(rt; "arjuna: more than {words}, after event {event}")
         }
     }
-    eprintln!(rt; "arjuna: a limit was met")
 }

@@ -1,4 +1,5 @@
 // What is said of images.
+use crate::errors::say;
 use arj_auditing::{FILE_LINES, IMAGE_LINES};
 use std::io;
 
@@ -6,14 +7,16 @@ use std::io;
 /// that is written on standard output isn't so.
 pub fn explain_audit(rt: &impl Eprint, status: u8) -> io::Result<()> {
     match status {
-        2 => eprintln!(rt;
-            "arjuna: a line of the image is bad, or the image ended before its files: standard output has the line's number (docs/FORMATS.md, \"Image\")"
+        2 => say(
+            rt,
+            "a line of the image is bad, or the image ended before its files: standard output has the line's number (docs/FORMATS.md, \"Image\")",
         ),
         6 => eprintln!(rt;
             "arjuna: more than {IMAGE_LINES} lines of an image, or more than {FILE_LINES} lines of its files"
         ),
-        _ => eprintln!(rt;
-            "arjuna: no run can go on from the image: standard output says what of it isn't so"
+        _ => say(
+            rt,
+            "no run can go on from the image: standard output says what of it isn't so",
         ),
     }
 }

@@ -1,5 +1,5 @@
 // What is said of client programs that can't be read.
-use crate::errors::line_at;
+use crate::errors::{EXPECTED_FIRST, line_at, say};
 use crate::pieces::word_at;
 use crate::shown::Shown;
 use crate::slip::text_slip;
@@ -12,7 +12,7 @@ use std::alloc::Global;
 use std::io;
 
 /// What could stand in the place of a line.
-#[derive(Clone, Copy, Debug, PartialEq, Eq)]
+#[derive(Clone, Copy)]
 enum Expected {
     Start,
     Header,
@@ -37,7 +37,7 @@ pub fn bad_programs(
     };
     let wanted = could_stand(alloc, input, (number as usize).saturating_sub(1));
     if let BadLine::Missing = why {
-        eprintln!(rt; "arjuna: the input ended before `run`")?;
+        say(rt, "the input ended before `run`")?;
         return say_expected(rt, wanted);
     }
     let line = line_at(input, number);
@@ -57,20 +57,30 @@ pub fn many_lines(rt: &impl Eprint) -> io::Result<()> {
     eprintln!(rt; "arjuna: more than {SCRIPT_LINES} lines")
 }
 
-// Whether a line would be taken behind so many lines of the input.
-fn takes(alloc: Global, input: &[u8], before: usize, line: &[u8]) -> bool {
-    let mut reader = ProgReader::new(alloc);
+// Whether the reader takes a line. What it reads is let go here alone.
+fn is_taken(reader: &mut ProgReader, line: &[u8]) -> bool {
+    reader.line(line).is_ok()
+}
+
+// Whether the reader takes so many lines of the input.
+fn are_taken(reader: &mut ProgReader, input: &[u8], before: usize) -> bool {
     let mut rest = input;
     for _ in 0..before {
         let Some((first, behind)) = cut(rest, b'\n') else {
-            return reader.line(rest).is_ok() && reader.line(line).is_ok();
+            return is_taken(reader, rest);
         };
-        if reader.line(first).is_err() {
+        if !is_taken(reader, first) {
             return false;
         }
         rest = behind;
     }
-    reader.line(line).is_ok()
+    true
+}
+
+// Whether a line would be taken behind so many lines of the input.
+fn takes(alloc: Global, input: &[u8], before: usize, line: &[u8]) -> bool {
+    let mut reader = ProgReader::new(alloc);
+    are_taken(&mut reader, input, before) && is_taken(&mut reader, line)
 }
 
 // What could stand behind so many lines of the input.
@@ -102,28 +112,34 @@ fn could_stand(alloc: Global, input: &[u8], before: usize) -> Expected {
 // Says what could stand there.
 fn say_expected(rt: &impl Eprint, wanted: Expected) -> io::Result<()> {
     match wanted {
-        Expected::Start => eprintln!(rt;
-            "arjuna: expected here: `nodes N`, with N from 1 to 16, before anything but blank lines and comments"
-        ),
-        Expected::Header => eprintln!(rt;
-            "arjuna: expected here: `object X CLASS VALUE servers LIST stores LIST`, or `seed S`, with S up to 4294967295"
-        ),
         Expected::Turns => eprintln!(rt;
             "arjuna: expected here: `turns T`, with T from 1 to {TURNS}"
         ),
-        Expected::FirstProgram => eprintln!(rt;
-            "arjuna: expected here: `prog NAME at N retry K`, with a node of the header and K from 0 to 9"
-        ),
-        Expected::Program => eprintln!(rt;
-            "arjuna: expected here: `prog NAME at N retry K`, with a new name, a node of the header and K from 0 to 9, or `run`"
-        ),
-        Expected::StatementOrElse => eprintln!(rt;
-            "arjuna: expected here: `do X OP`, `print X OP`, `if X OP = ANSWER`, `block K`, `fail`, or `else`, which ends the first list of an `if`"
-        ),
-        Expected::StatementOrEnd => eprintln!(rt;
-            "arjuna: expected here: `do X OP`, `print X OP`, `if X OP = ANSWER`, `block K`, `fail`, or `end`"
-        ),
         Expected::Other => Ok(()),
+        _ => say(rt, expected_words(wanted)),
+    }
+}
+
+// What could stand there, where no number says it.
+fn expected_words(wanted: Expected) -> &'static str {
+    match wanted {
+        Expected::Start => EXPECTED_FIRST,
+        Expected::Header => {
+            "expected here: `object X CLASS VALUE servers LIST stores LIST`, or `seed S`, with S up to 4294967295"
+        }
+        Expected::FirstProgram => {
+            "expected here: `prog NAME at N retry K`, with a node of the header and K from 0 to 9"
+        }
+        Expected::Program => {
+            "expected here: `prog NAME at N retry K`, with a new name, a node of the header and K from 0 to 9, or `run`"
+        }
+        Expected::StatementOrElse => {
+            "expected here: `do X OP`, `print X OP`, `if X OP = ANSWER`, `block K`, `fail`, or `else`, which ends the first list of an `if`"
+        }
+        Expected::StatementOrEnd => {
+            "expected here: `do X OP`, `print X OP`, `if X OP = ANSWER`, `block K`, `fail`, or `end`"
+        }
+        Expected::Turns | Expected::Other => "expected here: another line",
     }
 }
 
@@ -136,20 +152,19 @@ fn say_slip(rt: &impl Eprint, input: &[u8], line: &[u8]) -> io::Result<()> {
         return Ok(());
     }
     let object = word_at(line, 1);
-    let Some(class) = class_of(input, object) else {
-        return eprintln!(rt;
+    match class_of(input, object) {
+        Some(class) => say_call(rt, line, object, class),
+        None => eprintln!(rt;
             "arjuna: the slip: the header has no object `{}`",
             Shown(object)
-        );
-    };
+        ),
+    }
+}
+
+// Says how to mend a line that has a call on an object of this class.
+fn say_call(rt: &impl Eprint, line: &[u8], object: &[u8], class: &[u8]) -> io::Result<()> {
     if !has_operation(class, word_at(line, 2)) {
-        return eprintln!(rt;
-            "arjuna: the slip: object {} is of class {}, whose operations are {}, `create {} VALUE` and `destroy`",
-            Shown(object),
-            Shown(class),
-            operations(class),
-            Shown(class)
-        );
+        return say_operations(rt, object, class);
     }
     if is(word_at(line, 2), b"create") && word_at(line, 3) != class {
         return eprintln!(rt;
@@ -160,6 +175,17 @@ fn say_slip(rt: &impl Eprint, input: &[u8], line: &[u8]) -> io::Result<()> {
     }
     eprintln!(rt;
         "arjuna: a program has at most {STATEMENTS} statements and {PROGRAM_OBJECTS} objects, and at most {BLOCKS} blocks stand one inside another"
+    )
+}
+
+// Says which operations an object of this class has.
+fn say_operations(rt: &impl Eprint, object: &[u8], class: &[u8]) -> io::Result<()> {
+    eprintln!(rt;
+        "arjuna: the slip: object {} is of class {}, whose operations are {}, `create {} VALUE` and `destroy`",
+        Shown(object),
+        Shown(class),
+        operations(class),
+        Shown(class)
     )
 }
 

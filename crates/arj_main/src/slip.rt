@@ -13,7 +13,7 @@ use arj_journal::Header;
 use thiserror::Error;
 
 /// A slip that is often made in a line.
-#[derive(Clone, Copy, Debug, PartialEq, Eq, Error)]
+#[derive(Clone, Copy, Debug, Error)]
 pub enum Slip {
     #[error("the line begins with a byte order mark (the bytes EF BB BF), which stands for nothing here: save the script without it")]
     Mark,
