@@ -4,6 +4,7 @@ use Rattle.std.specs.List.{AllByRecursion}
 use Rattle.std.specs.Prelude.{Bool, true, false, String, get_or, if◌then◌else◌}
 use Rattle.std.specs.declared.alloc.Global.{Global}
 use Rattle.std.proofs.lemmas.List.{append-nil, length-map}
+use Rattle.arj_audit.specs.Calm.{IsCalm}
 use Rattle.arj_command.proofs.Causes.{Laws}
 use Rattle.arj_command.proofs.Shows.{behind_none, came, ended, facts_of}
 use Rattle.arj_command.specs.Command.{IsAudit, IsCheck, IsImage, IsProgram, IsReplay, NamesBank}
@@ -18,6 +19,8 @@ use Rattle.arj_journal.specs.declared.body.Line.{Line}
 use Rattle.arj_journal.specs.declared.event.Event.{Event}
 use Rattle.arj_journal.specs.declared.event.Event.TheVariants as event
 use Rattle.arj_journal.specs.declared.header.Header.{Header}
+use Rattle.arj_image.specs.declared.image.Image.{Image}
+use Rattle.arj_law_images.specs.Saving.{RestingRunsMakeCalmImages}
 use Rattle.arj_law_nodes.proofs.nodes.Ending.{promises_stay}
 use Rattle.arj_law_nodes.proofs.nodes.Reading.{events_in_form, few_events, header_in_form}
 use Rattle.arj_law_nodes.specs.nodes.Last.{EndsBehind}
@@ -29,12 +32,13 @@ use Rattle.arj_loop.specs.Replayed.{Answer, CameTo, Closes, EndsSo, IsCutShort, 
 use Rattle.arj_loop.specs.Running.{status_of, why_of}
 use Rattle.arj_loop.specs.declared.ending.End.{End}
 use Rattle.arj_model.specs.Refusals.{is_down}
-use Rattle.arj_nodes.specs.AllNodes.{task}
+use Rattle.arj_nodes.specs.AllNodes.{RanAll, task}
 use Rattle.arj_nodes.specs.AsMachine.{all_nodes}
 use Rattle.arj_nodes.specs.declared.all_nodes.AllNodes.{AllNodes}
 use Rattle.arj_saving.proofs.Crashing.{few_nodes}
 use Rattle.arj_saving.proofs.Scripts.{script_ran}
-use Rattle.arj_saving.specs.Saved.{AllStopped, HasUp, RanScript, Saves, header_of, script_events}
+use Rattle.arj_saved.specs.Files.{is_quiet}
+use Rattle.arj_saving.specs.Saved.{AllStopped, HasImage, HasUp, RanScript, Saves, header_of, image_of, script_events, stopped_header}
 use Rattle.arj_saving.specs.Stops.{ComesSoFar, EndsAtLimit, MeetsLimit, Moment, RunsMore, crashes, moment, no_labels, up_node, up_nodes}
 use Rattle.arj_script.specs.Input.{events_of}
 use Rattle.arj_start.specs.Start.{fresh}
@@ -136,6 +140,24 @@ module _ {C D : Type 0} (c : core.Ghosts C) (d : disk.Ghosts D) (read : Reads) (
         (promises_stay d read t (let n = now.machine in n.over) now.journal journal now.rack last
         (show t (let n = now.machine in n.over) (hand (let n = now.machine in n.world) now.rack now.journal) (crash_task done rest cut) whole))
 
+  -- an image of stopped nodes with nothing prepared and no record is calm
+  calm_image : RunsShow c d read → RestingRunsMakeCalmImages c d → (given : Arrived) (first : List D) (last : Moment D (AllNodes C)) (image : Image)
+      (after : List D) (s : AllStopped (all_nodes c d) given first last) →
+      HasImage (all_nodes c d) d (stopped_header (all_nodes c d) given first last s) last after image → is_quiet image.files ≡ true → IsCalm image
+  calm_image show resting given first last image after s has quiet =
+      let u = s.up in
+      let sc = u.script in
+      let a = s.crashed in
+      let hd = header_of (all_nodes c d) given first s.before sc in
+      let t = task first hd (script_events (all_nodes c d) given first s.before sc ++ crashes s.ups) in
+      let now = hand (let n = last.machine in n.world) last.rack last.journal in
+      let whole : RanAll c d t (let n = last.machine in n.over) now = a.ran first hd (script_events (all_nodes c d) given first s.before sc)
+      (script_ran (all_nodes c d) given first s.before sc) in
+      let files_are = ap (λ (i : Image). i.files) has.image_is in
+      subst IsCalm (sym has.image_is) (subst (λ n. IsCalm (image_of hd n last.journal has.files)) (sym whole.counted)
+      (resting t now has.files (crash_task show given first s.before s.ups s.up s.ups [] (sym (append-nil s.ups)))
+      (subst (λ over. RanAll c d t over now) a.going whole) s.down has.files_are (sym (ap is_quiet files_are) ∙ quiet)))
+
   -- the script's run, however it ended
   module _ (before after : Outside D) (given : Arrived) (reads : Came (source_view before.left before.faults) (source_view after.left after.faults) given) where
     abbrev as_closes : (end : End) (journal : List Line) (e : EndsSo (all_nodes c d) given before.rack after.rack end journal) →
@@ -162,10 +184,10 @@ module _ {C D : Type 0} (c : core.Ghosts C) (d : disk.Ghosts D) (read : Reads) (
       wrote = (length (text journal), tt, λ five. refl);
     }
 
-  pub image_headline : RunsShow c d read → ClosesShow c d read → StopsShow c d read → (before after : Outside D) (says : Said C) (nodes : Option (AllNodes C)) →
+  pub image_headline : RunsShow c d read → RestingRunsMakeCalmImages c d → ClosesShow c d read → StopsShow c d read → (before after : Outside D) (says : Said C) (nodes : Option (AllNodes C)) →
       Saves (all_nodes c d) d before after (answer says.status says.why says.journal nodes) → says.world ≡ world_of nodes →
       ImageHeadline c d read (around before after) says
-  image_headline show closes stops before after says nodes run world = record {
+  image_headline show resting closes stops before after says nodes run world = record {
     nodes = nodes;
     run = run;
     world_is = world;
@@ -179,6 +201,7 @@ module _ {C D : Type 0} (c : core.Ghosts C) (d : disk.Ghosts D) (read : Reads) (
     stopped = λ last s.
         let a = s.crashed in
         crash_facts show run.given before.rack s.before s.ups s.up s.ups [] (sym (append-nil s.ups)) last a.ran last.journal (behind_none c d last.journal);
+    calm = λ last image s has quiet. calm_image show resting run.given before.rack last image after.rack s has quiet;
     limited = λ now ups machine u l.
         let s = u.script in
         crash_facts show run.given before.rack now ups u l.done l.rest l.cut (moment after.rack machine l.lines) l.ran says.journal

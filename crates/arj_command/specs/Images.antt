@@ -1,9 +1,11 @@
 -- What a run of `image` shows.
-use Rattle.std.specs.Prelude.{◌≡◌, ℕ, List, ◌++◌, Option, Some}
+use Rattle.std.specs.Prelude.{◌≡◌, ℕ, true, List, ◌++◌, Option, Some}
+use Rattle.arj_audit.specs.Calm.{IsCalm}
 use Rattle.arj_command.specs.Facts.{Facts, behind}
 use Rattle.arj_command.specs.Outcome.{Around, CameShows, Said, world_of}
 use Rattle.arj_core.specs.declared.node.Core as core
 use Rattle.arj_disk.specs.declared.disk.Disk as disk
+use Rattle.arj_image.specs.declared.image.Image.{Image}
 use Rattle.arj_journal.specs.declared.body.Line.{Line}
 use Rattle.arj_law_nodes.specs.nodes.Readings.{Reads}
 use Rattle.arj_loop.specs.Replayed.{CameTo, EndsSo, IsCutShort, answer}
@@ -11,7 +13,8 @@ use Rattle.arj_loop.specs.declared.ending.End.{End}
 use Rattle.arj_nodes.specs.AllNodes.{task}
 use Rattle.arj_nodes.specs.AsMachine.{all_nodes}
 use Rattle.arj_nodes.specs.declared.all_nodes.AllNodes.{AllNodes}
-use Rattle.arj_saving.specs.Saved.{AllStopped, HasUp, Saves, header_of, script_events}
+use Rattle.arj_saved.specs.Files.{is_quiet}
+use Rattle.arj_saving.specs.Saved.{AllStopped, HasImage, HasUp, Saves, header_of, script_events, stopped_header}
 use Rattle.arj_saving.specs.Stops.{ComesSoFar, MeetsLimit, Moment, crashes, moment}
 use Rattle.arj_script.specs.Input.{events_of}
 
@@ -44,6 +47,12 @@ pub record ImageHeadline {C D : Type 0} (c : core.Ghosts C) (d : disk.Ghosts D) 
   pub stopped : (then : Moment D (AllNodes C)) →
       (let b = w.before in
       (s : AllStopped (all_nodes c d) run.given b.rack then) → CrashesShow c d read run.given b.rack s.before s.ups s.up s.ups then then.journal)
+  -- and where all were stopped: with nothing prepared and no record among its files the image is calm, so that a run can go on from it
+  pub calm : (then : Moment D (AllNodes C)) (image : Image) →
+      (let b = w.before in let a = w.after in
+      (s : AllStopped (all_nodes c d) run.given b.rack then) →
+      HasImage (all_nodes c d) d (stopped_header (all_nodes c d) run.given b.rack then s) then a.rack image →
+      is_quiet (let i = image in i.files) ≡ true → IsCalm image)
   pub limited : (before : Moment D (AllNodes C)) (ups : List ℕ) (machine : AllNodes C) →
       (let b = w.before in let a = w.after in
       (u : HasUp (all_nodes c d) run.given b.rack before ups) → (l : MeetsLimit (all_nodes c d) ups before (moment a.rack machine says.journal)) →

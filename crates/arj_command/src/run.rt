@@ -12,6 +12,7 @@ ghost use Rattle.arj_command.specs.Programs.{ProgramsHeadline};
 ghost use Rattle.arj_loop.specs.Replayed.{Closes, StopsShort, answer, outside};
 ghost use Rattle.arj_nodes.specs.AllNodes.{AreFresh};
 ghost use Rattle.arj_nodes.specs.AsMachine.{all_nodes};
+ghost use Rattle.arj_law_images.specs.Saving.{SavesFiles};
 ghost use Rattle.arj_law_nodes.specs.nodes.Cores.{SaysReadings};
 ghost use Rattle.arj_law_nodes.specs.nodes.Readings.{Reads, reading_of};
 ghost use Rattle.arj_programs.specs.Outcome.{RunsPrograms};
@@ -26,6 +27,7 @@ use arj_disk::{Disk, Rack};
 use arj_io::{Sink, Source};
 use arj_journal::Lines;
 use arj_law_cause::{journals_are_in_form, journals_tell_their_causes};
+use arj_law_images::resting_runs_make_calm_images;
 use arj_law_nodes::{banks_show_what_is_promised, nodes_run_moves, nodes_show_what_is_promised};
 use arj_law_programs::{committed_programs_run_alone, committed_programs_survive};
 use arj_loop::{BadLine, replay};
@@ -118,7 +120,7 @@ pub fn run_on<S: Source, K: Sink, D: Disk, O: ObjectStore, C: Core + Drop>(
     ensures headline { (read : Reads) → SaysReadings C.Core read → IsReplay words.now → result ≢ 4 → result ≢ 5 → Headline C.Core D.Disk read (around (outside (S.left source.old) (S.faults source.old) (K.taken sink.old) rack.old) (outside (S.left source.new) (S.faults source.new) (K.taken sink.new) rack.new)) (said result why.new journal.new world.new) }
     ensures shown { (read : Reads) → SaysReadings C.Core read → IsReplay words.now → (result ≡ 4) ⊎ (result ≡ 5) → Shown C.Core D.Disk read (around (outside (S.left source.old) (S.faults source.old) (K.taken sink.old) rack.old) (outside (S.left source.new) (S.faults source.new) (K.taken sink.new) rack.new)) result }
     ensures bank { SaysReadings C.Core (reading_of O.ObjectStore) → (n : ℕ) → IsGenerate words.now n → BankHeadline C.Core D.Disk (reading_of O.ObjectStore) n (around (outside (S.left source.old) (S.faults source.old) (K.taken sink.old) rack.old) (outside (S.left source.new) (S.faults source.new) (K.taken sink.new) rack.new)) (said result why.new journal.new world.new) }
-    ensures images { (read : Reads) → SaysReadings C.Core read → IsImage words.now → ImageHeadline C.Core D.Disk read (around (outside (S.left source.old) (S.faults source.old) (K.taken sink.old) rack.old) (outside (S.left source.new) (S.faults source.new) (K.taken sink.new) rack.new)) (said result why.new journal.new world.new) }
+    ensures images { (read : Reads) → SaysReadings C.Core read → SavesFiles C.Core read → IsImage words.now → ImageHeadline C.Core D.Disk read (around (outside (S.left source.old) (S.faults source.old) (K.taken sink.old) rack.old) (outside (S.left source.new) (S.faults source.new) (K.taken sink.new) rack.new)) (said result why.new journal.new world.new) }
     ensures programs { (read : Reads) → SaysReadings C.Core read → IsProgram words.now → ProgramsHeadline C.Core D.Disk read (around (outside (S.left source.old) (S.faults source.old) (K.taken sink.old) rack.old) (outside (S.left source.new) (S.faults source.new) (K.taken sink.new) rack.new)) (said result why.new journal.new world.new) }
     ensures checks { IsCheck words.now → Checks (ends (S.left source.old) (S.faults source.old) (K.taken sink.old)) (ends (S.left source.new) (S.faults source.new) (K.taken sink.new)) result found.new }
     ensures checks_alone { IsCheck words.now → (rack.new ≡ rack.old) × (journal.new ≡ journal.old) × (why.new ≡ why.old) × (world.new ≡ world.old) }
@@ -139,6 +141,7 @@ pub fn run_on<S: Source, K: Sink, D: Disk, O: ObjectStore, C: Core + Drop>(
     journals_tell_their_causes();
     journals_are_in_form();
     nodes_show_what_is_promised::<C, D>();
+    resting_runs_make_calm_images::<C, D>();
     banks_show_what_is_promised::<C, D>();
     programs_mean_their_calls();
     committed_programs_survive();

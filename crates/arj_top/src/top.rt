@@ -11,7 +11,7 @@ ghost use Rattle.arj_loop.specs.Replayed.{outside};
 ghost use Rattle.arj_nodes.specs.AllNodes.{AreFresh};
 
 use arj_checking::Finding;
-use arj_command::{cores_say_their_readings, run_on};
+use arj_command::{cores_save_their_files, cores_say_their_readings, run_on};
 use arj_core::Core;
 use arj_disk::{Disk, Rack};
 use arj_io::{Sink, Source};
@@ -66,7 +66,8 @@ pub fn arjuna<S: Source, K: Sink, D: Disk>(
     // that committed are what their statements make alone.
     ensures programs { IsProgram words.now → ProgramsHeadline ⟦<Node as Core>⟧ D.Disk (reading_of ⟦<Store as ObjectStore>⟧) (around (outside (S.left source.old) (S.faults source.old) (K.taken sink.old) rack.old) (outside (S.left source.new) (S.faults source.new) (K.taken sink.new) rack.new)) (said result why.new journal.new world.new) }
 
-    // The image of a script's run: what each status means, what was run and stopped, what was written of it, and the same of its events.
+    // The image of a script's run: what each status means, what was run and stopped, what was written of it, the same of its events, and
+    // that with nothing prepared and no record it is calm.
     ensures images { IsImage words.now → ImageHeadline ⟦<Node as Core>⟧ D.Disk (reading_of ⟦<Store as ObjectStore>⟧) (around (outside (S.left source.old) (S.faults source.old) (K.taken sink.old) rack.old) (outside (S.left source.new) (S.faults source.new) (K.taken sink.new) rack.new)) (said result why.new journal.new world.new) }
 
     // The check of a journal: what each status means, what was written of it, and that it touches nothing else.
@@ -90,5 +91,6 @@ pub fn arjuna<S: Source, K: Sink, D: Disk>(
     ensures no_write_fault { result ≢ 4 → K.faults sink.new ≡ K.faults sink.old }
 {
     cores_say_their_readings::<Store>();
+    cores_save_their_files();
     run_on::<S, K, D, Store, Node>(alloc, words, source, sink, rack, journal, why, found, world)
 }

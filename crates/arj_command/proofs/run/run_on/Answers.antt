@@ -47,13 +47,14 @@ returns-clause-programs g c read says is =
     c.run_command-status.new.nodes (c.run_command-status.ensures.programs is) c.world_of.ensures
 
 pub returns-clause-images : goal.returns-clause-images
-returns-clause-images g c read says is =
+returns-clause-images g c read says saves is =
     let before = outside (g.S.Source.left c.args.source.now) (g.S.Source.faults c.args.source.now)
     (g.K.Sink.taken c.args.sink.now) c.args.rack.now in
     let after = outside (g.S.Source.left c.run_command-status.new.source) (g.S.Source.faults c.run_command-status.new.source)
     (g.K.Sink.taken c.run_command-status.new.sink) c.run_command-status.new.rack in
     image_headline g.C.Core g.D.Disk read (laws_by c.nodes_run_moves.ensures.runs c.journals_tell_their_causes.ensures.runs c.journals_are_in_form.ensures.runs)
-    (c.nodes_show_what_is_promised.ensures.runs read says) (c.nodes_show_what_is_promised.ensures.closes read says)
+    (c.nodes_show_what_is_promised.ensures.runs read says) (c.resting_runs_make_calm_images.ensures read says saves)
+    (c.nodes_show_what_is_promised.ensures.closes read says)
     (c.nodes_show_what_is_promised.ensures.stops read says) before after
     (said c.run_command-status.result c.run_command-status.new.why c.run_command-status.new.journal c.world_of.result)
     c.run_command-status.new.nodes (c.run_command-status.ensures.saves is) c.world_of.ensures

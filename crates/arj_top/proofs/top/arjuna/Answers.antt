@@ -11,7 +11,7 @@ pub returns-clause-bank : goal.returns-clause-bank
 returns-clause-bank g c n is = c.run_on.ensures.bank c.cores_say_their_readings.ensures n is
 
 pub returns-clause-images : goal.returns-clause-images
-returns-clause-images g c is = c.run_on.ensures.images _ c.cores_say_their_readings.ensures is
+returns-clause-images g c is = c.run_on.ensures.images _ c.cores_say_their_readings.ensures c.cores_save_their_files.ensures is
 
 pub returns-clause-programs : goal.returns-clause-programs
 returns-clause-programs g c is = c.run_on.ensures.programs _ c.cores_say_their_readings.ensures is
