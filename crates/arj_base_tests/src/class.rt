@@ -32,17 +32,24 @@ fn bytes(alloc: Global, text: &[u8]) -> Result<Bytes, AllocError> {
     Ok(bytes)
 }
 
+// An answer that has neither a number nor bytes, in a word.
+fn word(answer: &Answer) -> &'static str {
+    match answer {
+        Answer::Done => "done",
+        Answer::Over => "over",
+        Answer::Short => "short",
+        Answer::Full => "full",
+        Answer::Nothing => "none",
+        Answer::There => "there",
+        Answer::Gone => "gone",
+        Answer::Number(_) | Answer::Text(_) => "more than a word",
+    }
+}
+
 fn answer_text(alloc: Global, answer: &Result<Answer, ApplyFault>) -> Result<String, AllocError> {
     match answer {
-        Ok(Answer::Done) => format!(in alloc; "done"),
-        Ok(Answer::Number(number)) => format!(in alloc; "{number}"),
         Ok(Answer::Text(bytes)) => format!(in alloc; "{:?}", bytes.as_slice()),
-        Ok(Answer::Over) => format!(in alloc; "over"),
-        Ok(Answer::Short) => format!(in alloc; "short"),
-        Ok(Answer::Full) => format!(in alloc; "full"),
-        Ok(Answer::Nothing) => format!(in alloc; "none"),
-        Ok(Answer::There) => format!(in alloc; "there"),
-        Ok(Answer::Gone) => format!(in alloc; "gone"),
+        Ok(answer) => format!(in alloc; "{}", word(answer)),
         Err(fault) => format!(in alloc; "{fault}"),
     }
 }
@@ -297,18 +304,26 @@ fn payloads_out_of_form_are_refused(rt: HostRuntime) -> Result<(), Fail> {
     Ok(())
 }
 
+// A value of the class at this place in their order.
+fn made(alloc: Global, place: usize) -> Value {
+    match place {
+        0 => Value::Counter(Counter::new(1)),
+        1 => Value::Register(Register::new(Bytes::new(alloc))),
+        2 => Value::Account(Account::new(1)),
+        3 => Value::Queue(Queue::new(Numbers::new(alloc))),
+        _ => Value::Table(Table::new(Pairs::new(alloc))),
+    }
+}
+
+// How many bytes its payload has.
+fn length_of(alloc: Global, place: usize) -> Result<usize, AllocError> {
+    Ok(made(alloc, place).save_state(alloc)?.as_slice().len())
+}
+
 #[test]
 fn values_are_made(rt: HostRuntime) -> Result<(), Fail> {
-    let alloc = rt.alloc();
-    let values = [
-        Value::Counter(Counter::new(1)),
-        Value::Register(Register::new(Bytes::new(alloc))),
-        Value::Account(Account::new(1)),
-        Value::Queue(Queue::new(Numbers::new(alloc))),
-        Value::Table(Table::new(Pairs::new(alloc))),
-    ];
-    for (value, length) in values.iter().zip([8, 0, 8, 0, 0]) {
-        assert_eq!(rt; value.save_state(alloc)?.as_slice().len(), length);
+    for (place, length) in [8, 0, 8, 0, 0].iter().enumerate() {
+        assert!(rt; length_of(rt.alloc(), place)? == *length);
     }
     Ok(())
 }
