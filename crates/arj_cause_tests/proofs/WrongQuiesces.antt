@@ -231,12 +231,19 @@ settle_shut : SendsStep two_nodes (end_from nothing_yet ((event.Junk 1 [], body.
     ∷ (event.Deliver (Number 1), body.Void 1 ∷ []) ∷ [])) event.Settle (sent_from 1 1) → ⊥
 settle_shut s = let no_way : 2 ≤ 1 = s in absurd (omega (arith, no_way))
 
--- for an action at work a settle sends no twenty-first, and a quiesce no fifty-ninth
-settle_at_work : SendsStep two_nodes (end_from nothing_yet (begins ∷ [])) event.Settle (sent_from 0 21) → ⊥
-settle_at_work s = let no_way : 21 ≤ 20 = s in absurd (omega (arith, no_way))
+-- For an action that waits for nothing a settle sends none, and a quiesce no thirty-ninth.
+settle_idle : SendsStep two_nodes (end_from nothing_yet (begins ∷ [])) event.Settle (sent_from 0 1) → ⊥
+settle_idle s = let no_way : 1 ≤ 0 = s in absurd (omega (arith, no_way))
 
-quiesce_more : SendsStep two_nodes (end_from nothing_yet (begins ∷ [])) event.Quiesce (sent_from 0 59 ++ body.Quiet false ∷ []) → ⊥
-quiesce_more s = let no_way : 59 ≤ 58 = s in absurd (omega (arith, no_way))
+quiesce_more : SendsStep two_nodes (end_from nothing_yet (begins ∷ [])) event.Quiesce (sent_from 0 39 ++ body.Quiet false ∷ []) → ⊥
+quiesce_more s = let no_way : 39 ≤ 38 = s in absurd (omega (arith, no_way))
+
+-- for one that waits, with its request open, no twenty-fifth
+settle_at_work : SendsStep two_nodes binding event.Settle (body.Got 1 ∷ sent_from 1 25) → ⊥
+settle_at_work s = let no_way : 26 ≤ 25 = s in absurd (omega (arith, no_way))
+
+settle_so_many : SendsStep two_nodes binding event.Settle (body.Got 1 ∷ sent_from 1 24)
+settle_so_many = omega arith
 
 -- ---- the limit of frames
 

@@ -40,7 +40,7 @@ pub fn asked_alone_is_answered()
 /// which it is given up, and one for each open action that an abort ends. A delivery sends one frame where it is of a call, an include, or
 /// to another node a request of a commit, an end or a question; to each other node one of an acknowledgement, two of an answer to a Prepare
 /// or a Confirm, one for each action that began of a hello, and three of any other. A tick sends to each other node seven for each action
-/// that began, a restart three for each and a hello. A settle sends what open frames lead to, and so many for each action that began, for
+/// that began, a restart three for each and a hello. A settle sends what open frames lead to, and so many for each action that waits, for
 /// what it has to do still; a quiesce as many, and what its ticks send, with what that leads to. None is sent by which an action begins, a
 /// frame is lost, a node crashes, a stop is armed, or an object is shown. It does nothing when it runs.
 pub fn events_send_few_frames()

@@ -2,56 +2,65 @@
 use Rattle.arj_law_parts.proofs.Words
 use Words.{◌≡◌, ◌≤◌, ◌∙◌, ◌+◌, ◌*◌, ℕ, zero, suc, Bool, true, false, cond, List, [], ◌∷◌, length}
 use Words.{refl, sym, ap, subst, arith, Some, length-append}
-use Words.{Header, Line, Node, Parts, World, Arm, at_place, counted, node_numbers, numbers_to, quiesce, settle, tick_all, see}
+use Words.{Header, Node, Parts, World, Arm, at_place, counted, node_numbers, numbers_to, quiesce, settle, tick_all}
 use Words.{is_quiet, most_frames}
 use Words.body
 use Rattle.arj_law_parts.proofs.Terms.{says as world_says}
 use Rattle.arj_law_parts.specs.moves.Keeps.{Holds}
 use Rattle.arj_law_runs.proofs.Terms.{acts}
 use Rattle.arj_law_runs.proofs.follow.Telling.{frame_test, opens}
-use Rattle.arj_law_runs.proofs.follow.Uids.{count_of}
-use Rattle.arj_law_runs.specs.addresses.Addresses.{GoWithin, IsNode}
-use Rattle.arj_law_cause.proofs.leading.Counts.{frames_led, frames_long, most_left, nodes_few}
+use Rattle.arj_law_runs.specs.addresses.Addresses.{GoWithin}
+use Rattle.arj_law_cause.proofs.leading.Counts.{at_work, frames_led, frames_long, most_left, nodes_few, of_node}
 use Rattle.arj_law_cause.proofs.leading.Loads as loads
 use loads.{all_told, sum_of, times, times_is}
 use Rattle.arj_law_cause.proofs.leading.Settles as settles
 use settles.{KnownUp, Stood, all_in_world, quiesce_all, settle_all, stood_on, tick_cost}
 use Rattle.arj_law_cause.proofs.leading.Worlds as worlds
-use Rattle.arj_law_cause.proofs.sending.Begun.{works_counted}
-use Rattle.arj_law_cause.specs.rounds.Sends.{all_led, carries, is_hello, most_quiesced, most_settled}
+use Rattle.arj_law_cause.proofs.leading.Waiting.{few_wait, who_wait}
+use Rattle.arj_law_cause.proofs.quiesces.Ties as ties
+use Rattle.arj_law_cause.proofs.told.Joined as joined
+use Rattle.arj_law_cause.specs.rounds.Sends.{all_led, carries, is_hello, most_quiesced, most_settled, waiting}
+use Rattle.arj_journal.specs.ScriptForm.{HeaderInForm}
+use Rattle.arj_model.specs.Past.{Past}
 use Rattle.arj_model.specs.Refusals.{open_frames}
 
--- a world of nodes of the header, of which these lines tell which frames are open and carry a hello, and which actions began
-pub record IsSettling (hd : Header) (ls : List Line) (w : World) : Type 0 where
-  pub stood : Stood hd (length (acts ls)) w
+-- a world of nodes of the header, of which the run so far tells which frames are open and carry a hello, which actions began, and which
+-- wait
+pub record IsSettling (hd : Header) (q : Past) (w : World) : Type 0 where
+  pub stood : Stood hd (length (acts q.lines)) w
   pub header : w.header ≡ hd
-  pub same : acts w.lines ≡ acts ls
-  pub pending : open_frames ls ≡ opens 1 w.frames
-  pub hellos : (k : ℕ) → carries is_hello ls k ≡ frame_test (λ from to what. is_hello what) (at_place k w.frames)
+  pub pending : open_frames q.lines ≡ opens 1 w.frames
+  pub hellos : (k : ℕ) → carries is_hello q.lines k ≡ frame_test (λ from to what. is_hello what) (at_place k w.frames)
+  pub works : (k : ℕ) (x : Node) → at_place k w.nodes ≡ Some x → (t : Parts) → x.live ≡ Some t →
+      length (at_work t.coord.doings) ≤ of_node k (who_wait q)
 
-pub settling_of : (hd : Header) (ls : List Line) (w : World) → ls ≡ w.lines → Holds hd KnownUp w →
-    ((n : ℕ) (x : Node) → at_place n w.nodes ≡ Some x → IsNode hd n) → open_frames ls ≡ opens 1 w.frames →
-    ((k : ℕ) → carries is_hello ls k ≡ frame_test (λ from to what. is_hello what) (at_place k w.frames)) → IsSettling hd ls w
-settling_of hd ls w same h nodes pending hellos = record {
-  stood = (h, subst (λ ks. length (acts w.lines) ≤ length (acts ks)) (sym same) (itself (length (acts w.lines))), nodes);
+pub settling_of : (hd : Header) (form : HeaderInForm hd) (q : Past) (w : World) (s : joined.Inv hd form q w) → Holds hd KnownUp w →
+    open_frames q.lines ≡ opens 1 w.frames →
+    ((k : ℕ) → carries is_hello q.lines k ≡ frame_test (λ from to what. is_hello what) (at_place k w.frames)) → IsSettling hd q w
+settling_of hd form q w s h pending hellos = record {
+  stood = (
+    h,
+    subst (λ ks. length (acts w.lines) ≤ length (acts ks)) (sym (ties.same_lines hd form q w s)) (itself (length (acts w.lines))),
+    λ n x there. (let t = ties.told hd form q w s in (t.placed.nodes n x there).0),
+  );
   header = h.stands.header;
-  same = ap acts (sym same);
   pending = pending;
   hellos = hellos;
+  works = λ k x there t live. few_wait hd form q w s h k x there t live;
 }
   where
     itself : (a : ℕ) → a ≤ a
     itself a = omega arith
 
 -- which stops are still to fall, and how many events were run, is nothing to it
-pub settling_on : (hd : Header) (ls : List Line) (w : World) (arms : List (ℕ × Arm)) → IsSettling hd ls w →
-    IsSettling hd ls (counted (record w { arms = arms }))
-settling_on hd ls w arms s = record {
-  stood = stood_on hd (length (acts ls)) w arms s.stood;
+pub settling_on : (hd : Header) (q : Past) (w : World) (arms : List (ℕ × Arm)) → IsSettling hd q w →
+    IsSettling hd q (counted (record w { arms = arms }))
+settling_on hd q w arms s = record {
+  stood = stood_on hd (length (acts q.lines)) w arms s.stood;
   header = s.header;
-  same = s.same;
   pending = s.pending;
   hellos = s.hellos;
+  works = s.works;
 }
 
 pub numbers_long : (n : ℕ) → length (numbers_to n) ≡ n
@@ -75,24 +84,23 @@ ticks_cost hd a w same = ap (times (tick_cost hd.nodes a)) (numbers_long (let h 
         next : (n b : ℕ) → (((2 + 2 * n) * b + (suc (suc n) * n) * b) + suc (suc (suc n)) * b) * n ≡ n * ((n * (n + 5) + 5) * b)
         next n b = grind arith
 
-module _ (hd : Header) (ls : List Line) (w : World) (s : IsSettling hd ls w) where
+module _ (hd : Header) (q : Past) (w : World) (s : IsSettling hd q w) where
   abbrev hello : ℕ
-  hello = times (suc (suc (suc hd.nodes))) (length (acts ls))
+  hello = times (suc (suc (suc hd.nodes))) (length (acts q.lines))
 
   itself : (b : ℕ) → b ≤ b
   itself b = omega arith
 
   -- all that there is before it
-  before_few : all_in_world hd (length (acts ls)) w ≤ length w.frames + most_settled hd ls
+  before_few : all_in_world hd (length (acts q.lines)) w ≤ length w.frames + most_settled hd q
   before_few = sum (sum_of (worlds.weight hd.nodes hello hello (itself hello)) w.frames)
-      (sum_of (worlds.left_node hd.nodes hello hello (itself hello)) w.nodes) (length w.frames) (all_led hd ls (opens 1 w.frames))
-      (all_led hd ls (open_frames ls)) (times (most_left hd.nodes) (length (acts ls)))
-      ((hd.nodes * (hd.nodes + 4) + 8) * length (acts ls))
-      (frames_led hd ls hello w.frames hello (itself hello) (led hd.nodes (length (acts ls))) s.hellos)
-      (ap (all_led hd ls) (sym s.pending))
-      (subst (λ xs. sum_of (worlds.left_node hd.nodes hello hello (itself hello)) w.nodes ≤ times (most_left hd.nodes) (length xs)) s.same
-      (nodes_few hd.nodes hello hello (itself hello) (acts w.lines) w.nodes works))
-      (left_so hd.nodes (length (acts ls)))
+      (sum_of (worlds.left_node hd.nodes hello hello (itself hello)) w.nodes) (length w.frames) (all_led hd q.lines (opens 1 w.frames))
+      (all_led hd q.lines (open_frames q.lines)) (times (most_left hd.nodes) (length (who_wait q)))
+      ((hd.nodes * (hd.nodes + 4) + 8) * waiting q)
+      (frames_led hd q.lines hello w.frames hello (itself hello) (led hd.nodes (length (acts q.lines))) s.hellos)
+      (ap (all_led hd q.lines) (sym s.pending))
+      (nodes_few hd.nodes hello hello (itself hello) (who_wait q) w.nodes s.works)
+      (left_so hd.nodes (length (who_wait q)))
     where
       sum : (f m l o p t c : ℕ) → f ≤ l + o → o ≡ p → m ≤ t → t ≡ c → f + m ≤ l + (p + c)
       sum f m l o p t c one two three four = omega (arith, one, two, three, four)
@@ -112,14 +120,10 @@ module _ (hd : Header) (ls : List Line) (w : World) (s : IsSettling hd ls w) whe
           next : (n b : ℕ) → ((8 + 2 * n) + suc (suc n) * n) * b ≡ (n * (n + 4) + 8) * b
           next n b = grind arith
 
-      works : (k : ℕ) (x : Node) → at_place k w.nodes ≡ Some x → (t : Parts) → x.live ≡ Some t →
-          (i : ℕ) × (length t.coord.doings ≡ count_of k i (acts w.lines))
-      works k x there t live = let h = s.stood.0 in works_counted hd (see h.sent w) h.holds.0 k x there t live
-
   abbrev AddsOf : ℕ → World → Type 0
   AddsOf c v = length v.frames ≤ length w.frames + c
 
-  long : (v : World) → GoWithin hd.nodes v → length v.frames ≤ all_in_world hd (length (acts ls)) v
+  long : (v : World) → GoWithin hd.nodes v → length v.frames ≤ all_in_world hd (length (acts q.lines)) v
   long v within = more (length v.frames) (sum_of (worlds.weight hd.nodes hello hello (itself hello)) v.frames)
       (sum_of (worlds.left_node hd.nodes hello hello (itself hello)) v.nodes)
       (frames_long hd.nodes hello hello (itself hello) v.frames within)
@@ -127,30 +131,31 @@ module _ (hd : Header) (ls : List Line) (w : World) (s : IsSettling hd ls w) whe
       more : (x y z : ℕ) → x ≤ y → x ≤ y + z
       more x y z le = omega (arith, le)
 
-  pub settle_adds : GoWithin hd.nodes (settle w) → AddsOf (most_settled hd ls) (settle w)
-  settle_adds within = three (length (settle w).frames) (all_in_world hd (length (acts ls)) (settle w))
-      (all_in_world hd (length (acts ls)) w) (length w.frames + most_settled hd ls) (long (settle w) within)
-      (settle_all hd (length (acts ls)) most_frames w s.stood).0 before_few
+  pub settle_adds : GoWithin hd.nodes (settle w) → AddsOf (most_settled hd q) (settle w)
+  settle_adds within = three (length (settle w).frames) (all_in_world hd (length (acts q.lines)) (settle w))
+      (all_in_world hd (length (acts q.lines)) w) (length w.frames + most_settled hd q) (long (settle w) within)
+      (settle_all hd (length (acts q.lines)) most_frames w s.stood).0 before_few
     where
       three : (x y z u : ℕ) → x ≤ y → y ≤ z → z ≤ u → x ≤ u
       three x y z u one two le = omega (arith, one, two, le)
 
-  pub quiesce_adds : GoWithin hd.nodes (quiesce w) → AddsOf (most_quiesced hd ls) (quiesce w)
+  pub quiesce_adds : GoWithin hd.nodes (quiesce w) → AddsOf (most_quiesced hd q) (quiesce w)
   quiesce_adds within = by v.full within
     where
       v : World
       v = settle (tick_all (node_numbers w) (settle w))
 
-      all : GoWithin hd.nodes v → AddsOf (most_quiesced hd ls) v
-      all inside = sum (length v.frames) (all_in_world hd (length (acts ls)) v) (all_in_world hd (length (acts ls)) w) (length w.frames)
-          (most_settled hd ls) (times (tick_cost hd.nodes (length (acts ls))) (length (node_numbers w)))
-          (hd.nodes * ((hd.nodes * (hd.nodes + 5) + 5) * length (acts ls))) (long v inside)
-          (quiesce_all hd (length (acts ls)) w s.stood) before_few (ticks_cost hd (length (acts ls)) w s.header)
+      all : GoWithin hd.nodes v → AddsOf (most_quiesced hd q) v
+      all inside = sum (length v.frames) (all_in_world hd (length (acts q.lines)) v) (all_in_world hd (length (acts q.lines)) w) (length
+          w.frames)
+          (most_settled hd q) (times (tick_cost hd.nodes (length (acts q.lines))) (length (node_numbers w)))
+          (hd.nodes * ((hd.nodes * (hd.nodes + 5) + 5) * length (acts q.lines))) (long v inside)
+          (quiesce_all hd (length (acts q.lines)) w s.stood) before_few (ticks_cost hd (length (acts q.lines)) w s.header)
         where
           sum : (x y z l m t c : ℕ) → x ≤ y → y ≤ z + t → z ≤ l + m → t ≡ c → x ≤ l + (m + c)
           sum x y z l m t c one two three is = omega (arith, one, two, three, is)
 
       by : (b : Bool) → GoWithin hd.nodes (cond b v (world_says (body.Quiet (is_quiet v) ∷ []) v)) →
-          AddsOf (most_quiesced hd ls) (cond b v (world_says (body.Quiet (is_quiet v) ∷ []) v))
+          AddsOf (most_quiesced hd q) (cond b v (world_says (body.Quiet (is_quiet v) ∷ []) v))
       by true inside = all inside
       by false inside = all inside

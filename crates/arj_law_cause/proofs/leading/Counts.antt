@@ -1,17 +1,15 @@
--- What a world's frames, and what is at work in it, lead to at most, in words of its journal: by open frames, and by the actions that
--- began.
+-- What a world's frames, and what is at work in it, lead to at most, in words of its journal: by open frames, and by the actions that wait.
 use Rattle.arj_law_parts.proofs.Words
-use Words.{◌≡◌, ◌≤◌, ◌<◌, ◌∙◌, ◌+◌, ◌*◌, ◌==◌, ◌&&◌, ℕ, zero, suc, Bool, true, false, cond, List, [], ◌∷◌, length}
+use Words.{◌≡◌, ◌≤◌, ◌<◌, ◌∙◌, ◌+◌, ◌*◌, ◌==◌, ℕ, zero, suc, Bool, true, false, cond, List, [], ◌∷◌, length}
 use Words.{filter}
 use Words.{refl, sym, ap, subst, arith, nat_tests, slice_get, Option, Some, None, AllByRecursion}
 use Words.{Doing, Idle, Calling, Committing, Now, Voting, Preparing, Confirming, At, Header, Line, Message, Node, Parts}
-use Words.{Frame, at_place, is_open_frame, frame_kind}
+use Words.{Frame, at_place, is_open_frame, is_waiting_now, frame_kind}
 use Words.calls
 use Words.message
 use Rattle.arj_journal.specs.declared.body.FrameKind.{FrameKind}
 use Rattle.arj_law_runs.proofs.Terms.{Act, acts}
 use Rattle.arj_law_runs.proofs.follow.Telling.{carried_by, frame_test, opens}
-use Rattle.arj_law_runs.proofs.follow.Uids.{count_of}
 use Rattle.arj_law_cause.proofs.leading.Loads as loads
 use loads.{all_told, inside, lead, left_all, left_now, left_of_doing, machine_left, steps_left, sum_of, times}
 use Rattle.arj_law_cause.proofs.leading.Worlds as worlds
@@ -52,38 +50,32 @@ left_few n (Committing (Confirming p)) = low (times 2 n) (all_told n)
     low : (x y : ℕ) → y ≤ (8 + x) + y
     low x y = omega arith
 
-all_few : (n : ℕ) (ds : List Doing) → left_all n ds ≤ times (most_left n) (length ds)
+-- those of which an action waits
+abbrev pub at_work : List Doing → List Doing
+at_work ds = filter (λ (d : Doing). is_waiting_now d.now) ds
+
+-- others have nothing to do
+all_few : (n : ℕ) (ds : List Doing) → left_all n ds ≤ times (most_left n) (length (at_work ds))
 all_few n [] = omega arith
-all_few n (d ∷ ds) = both (left_of_doing n d) (left_all n ds) (most_left n) (times (most_left n) (length ds)) (left_few n d.now)
-    (all_few n ds)
+all_few n (d ∷ ds) = by d.now (all_few n ds)
   where
     both : (a b c e : ℕ) → a ≤ c → b ≤ e → a + b ≤ c + e
     both a b c e x y = omega (arith, x, y)
 
+    none : (b e : ℕ) → b ≤ e → 0 + b ≤ e
+    none b e le = omega (arith, le)
+
+    by : (x : Now) → left_all n ds ≤ times (most_left n) (length (at_work ds)) →
+        left_now n x + left_all n ds ≤ times (most_left n) (length (cond (is_waiting_now x) (d ∷ at_work ds) (at_work ds)))
+    by Idle ih = none (left_all n ds) (times (most_left n) (length (at_work ds))) ih
+    by (Calling s) ih = both (left_now n (Calling s)) (left_all n ds) (most_left n) (times (most_left n) (length (at_work ds)))
+        (left_few n (Calling s)) ih
+    by (Committing m) ih = both (left_now n (Committing m)) (left_all n ds) (most_left n) (times (most_left n) (length (at_work ds)))
+        (left_few n (Committing m)) ih
+
 -- how many of these actions are of this node
-abbrev of_node : ℕ → List Act → ℕ
+abbrev pub of_node : ℕ → List Act → ℕ
 of_node k xs = length (filter (λ (a : Act). (let u = a.uid in u.node) == k) xs)
-
-count_less : (k i : ℕ) (xs : List Act) → count_of k i xs ≤ of_node k xs
-count_less k i [] = omega arith
-count_less k i (a ∷ xs) = by ((let u = a.uid in u.node) == k) ((let u = a.uid in u.inc) == i) (count_less k i xs)
-  where
-    both : (x y : ℕ) → x ≤ y → suc x ≤ suc y
-    both x y le = omega (arith, le)
-
-    more : (x y : ℕ) → x ≤ y → x ≤ suc y
-    more x y le = omega (arith, le)
-
-    rest : List Act
-    rest = filter (λ (a : Act). ((let u = a.uid in u.node) == k) && ((let u = a.uid in u.inc) == i)) xs
-
-    others : List Act
-    others = filter (λ (a : Act). (let u = a.uid in u.node) == k) xs
-
-    by : (b c : Bool) → length rest ≤ length others → length (cond (b && c) (a ∷ rest) rest) ≤ length (cond b (a ∷ others) others)
-    by true true le = both (length rest) (length others) le
-    by true false le = more (length rest) (length others) le
-    by false c le = le
 
 -- of all nodes from this one on: each action is of one of them at most
 abbrev of_all : ℕ → ℕ → List Act → ℕ
@@ -165,13 +157,14 @@ in_all k m (a ∷ xs) = sum (of_all k m (a ∷ xs)) (is_one (let u = a.uid in u.
 module _ (n hello own : ℕ) (more : hello ≤ own) where
   -- at all nodes from this one on
   nodes_from : (k : ℕ) (xs : List Act) (ns : List Node) → ((i : ℕ) (x : Node) → slice_get ns i ≡ Some x → (t : Parts) → x.live ≡ Some t →
-      length t.coord.doings ≤ of_node (k + i) xs) → sum_of (worlds.left_node n hello own more) ns ≤ times (most_left n) (of_all k
+      length (at_work t.coord.doings) ≤ of_node (k + i) xs) → sum_of (worlds.left_node n hello own more) ns ≤ times (most_left n) (of_all k
       (length ns) xs)
   nodes_from k xs [] few = omega arith
   nodes_from k xs (x ∷ ns) few = sum (worlds.left_node n hello own more x) (sum_of (worlds.left_node n hello own more) ns)
       (times (most_left n) (of_node k xs)) (times (most_left n) (of_all (suc k) (length ns) xs))
       (times (most_left n) (of_node k xs + of_all (suc k) (length ns) xs)) (by x.live refl)
-      (nodes_from (suc k) xs ns (λ i y at t live. subst (λ j. length t.coord.doings ≤ of_node j xs) (next k i) (few (suc i) y at t live)))
+      (nodes_from (suc k) xs ns (λ i y at t live. subst (λ j. length (at_work t.coord.doings) ≤ of_node j xs) (next k i) (few (suc i) y
+      at t live)))
       (split (most_left n) (of_node k xs) (of_all (suc k) (length ns) xs))
     where
       sum : (a b c e s : ℕ) → a ≤ c → b ≤ e → s ≡ c + e → a + b ≤ s
@@ -194,26 +187,22 @@ module _ (n hello own : ℕ) (more : hello ≤ own) where
 
       by : (o : Option Parts) → x.live ≡ o → worlds.left_up n hello own more o ≤ times (most_left n) (of_node k xs)
       by None is = least (times (most_left n) (of_node k xs))
-      by (Some t) is = less (left_all n t.coord.doings) (times (most_left n) (length t.coord.doings)) (times (most_left n) (of_node k xs))
+      by (Some t) is = less (left_all n t.coord.doings) (times (most_left n) (length (at_work t.coord.doings))) (times (most_left n)
+          (of_node k xs))
           (all_few n t.coord.doings)
-          (loads.times_longer (most_left n) (length t.coord.doings) (of_node k xs)
-          (subst (λ j. length t.coord.doings ≤ of_node j xs) (none k) (few zero x refl t is)))
+          (loads.times_longer (most_left n) (length (at_work t.coord.doings)) (of_node k xs)
+          (subst (λ j. length (at_work t.coord.doings) ≤ of_node j xs) (none k) (few zero x refl t is)))
 
-  -- at all nodes: so much for each action that began
+  -- at all nodes: so much for each of these actions
   pub nodes_few : (xs : List Act) (ns : List Node) → ((k : ℕ) (x : Node) → at_place k ns ≡ Some x → (t : Parts) → x.live ≡ Some t →
-      (i : ℕ) × (length t.coord.doings ≡ count_of k i xs)) → sum_of (worlds.left_node n hello own more) ns ≤ times (most_left n) (length xs)
+      length (at_work t.coord.doings) ≤ of_node k xs) → sum_of (worlds.left_node n hello own more) ns ≤ times (most_left n) (length xs)
   nodes_few xs ns few = less (sum_of (worlds.left_node n hello own more) ns) (times (most_left n) (of_all 1 (length ns) xs))
       (times (most_left n) (length xs))
-      (nodes_from 1 xs ns (λ i x at t live. let c = few (suc i) x at t live in
-      subst (λ j. length t.coord.doings ≤ of_node j xs) (one i) (within (length t.coord.doings) (count_of (suc i) c.0 xs)
-      (of_node (suc i) xs) c.1 (count_less (suc i) c.0 xs))))
+      (nodes_from 1 xs ns (λ i x at t live. subst (λ j. length (at_work t.coord.doings) ≤ of_node j xs) (one i) (few (suc i) x at t live)))
       (loads.times_longer (most_left n) (of_all 1 (length ns) xs) (length xs) (in_all 1 (length ns) xs))
     where
       one : (i : ℕ) → suc i ≡ 1 + i
       one i = omega arith
-
-      within : (a b c : ℕ) → a ≡ b → b ≤ c → a ≤ c
-      within a b c is le = omega (arith, is, le)
 
       less : (a b c : ℕ) → a ≤ b → b ≤ c → a ≤ c
       less a b c x y = omega (arith, x, y)

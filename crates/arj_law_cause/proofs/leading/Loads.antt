@@ -1,6 +1,5 @@
 -- How many frames messages lead to in all, whoever takes them: what a message is worth itself, and what is left to do of a call or a
--- commit,
--- that is counted where it is at work.
+-- commit, that is counted where it is at work.
 use Rattle.arj_law_parts.proofs.Words
 use Words.{◌≡◌, ◌≤◌, ◌<◌, ◌∙◌, ◌+◌, ◌*◌, ◌==◌, ◌&&◌, not, ℕ, zero, suc, Bool, true, false, cond, List, [], ◌∷◌, ◌++◌, map, filter, length}
 use Words.{refl, sym, ap, subst, arith, nat_tests, nat_le, slice_get, slice_set, AllByRecursion, Option, Some, None, flat_map, and_parts}

@@ -1,6 +1,5 @@
 -- How many frames there are in a world, with what they and what actions at work still lead to: a delivery of an open frame makes it no
--- more,
--- so all frames of a settle are counted before it; and a tick only as much as it sends.
+-- more, so all frames of a settle are counted before it; and a tick only as much as it sends.
 use Rattle.arj_law_parts.proofs.Words
 use Words.{◌≡◌, ◌≤◌, ◌<◌, ◌∙◌, ◌+◌, ◌-◌, ◌*◌, ◌==◌, ◌&&◌, ◌||◌, not, ℕ, zero, suc, Bool, true, false, cond, List, [], ◌∷◌, ◌++◌, map}
 use Words.{length}

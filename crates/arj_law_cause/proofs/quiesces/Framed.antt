@@ -424,23 +424,24 @@ deliver_back k w numbers = by (at_place k w.frames)
         carried f f.message p.0 (differ (f.from == f.to) p.1)
 
 -- of each event for which there is a bound
-module _ (hd : Header) (ls : List Words.Line) (w : World) (last : last_frame ls ≡ length w.frames)
-    (frames : (test : ℕ → ℕ → FrameKind → Bool) (k : ℕ) → frame_is test ls k ≡ frame_test test (at_place k w.frames))
+module _ (hd : Header) (q : Past) (w : World) (last : last_frame q.lines ≡ length w.frames)
+    (frames : (test : ℕ → ℕ → FrameKind → Bool) (k : ℕ) → frame_is test q.lines k ≡ frame_test test (at_place k w.frames))
     (numbers : (n : ℕ) (x : Node) → at_place n w.nodes ≡ Some x → x.number ≡ n)
     (nodes : (n : ℕ) (x : Node) → at_place n w.nodes ≡ Some x → IsNode hd n)
     (ups : (n : ℕ) (x : Node) → at_place n w.nodes ≡ Some x → UpNode x)
     (ends : (l : Label) (x : Node) (t : Parts) (b : Branch) → at_place (node_of l w) w.nodes ≡ Some x → x.live ≡ Some t →
     branch_named l t.coord ≡ Some b → is_some b.ended ≡ false →
-    length (open_below (actor b.path) t.coord.tree ++ actor b.path ∷ []) ≤ length (aborted_of ls (act_in (terms.acts ls) (name l))))
-    (few : (n : ℕ) (x : Node) → at_place n w.nodes ≡ Some x → FewAt (length (terms.acts ls)) x)
-    (world : IsSettling hd ls w) where
+    length (open_below (actor b.path) t.coord.tree ++ actor b.path ∷ []) ≤ length (aborted_of q.lines (act_in (terms.acts q.lines) (name
+    l))))
+    (few : (n : ℕ) (x : Node) → at_place n w.nodes ≡ Some x → FewAt (length (terms.acts q.lines)) x)
+    (world : IsSettling hd q w) where
   abbrev Bound : Event → Type 0
-  Bound e = (a : Arm) → GoWithin hd.nodes (happens e a w) → IfSome (most_sent hd ls e) (λ k. Adds k w (happens e a w))
+  Bound e = (a : Arm) → GoWithin hd.nodes (happens e a w) → IfSome (most_sent hd q e) (λ k. Adds k w (happens e a w))
 
   none : (a : ℕ) → a ≤ a + 0
   none a = omega arith
 
-  number_is : (k : FrameNo) → model.frame_no ls k ≡ frame_number k w
+  number_is : (k : FrameNo) → model.frame_no q.lines k ≡ frame_number k w
   number_is (frame_no.Number j) = refl
   number_is frame_no.Last = last
 
@@ -448,28 +449,29 @@ module _ (hd : Header) (ls : List Words.Line) (w : World) (last : last_frame ls 
   times : (c : ℕ) (v : World) → length v.frames ≤ length w.frames + each c (hd.nodes - 1) → Adds (c * others hd) w v
   times c v le = subst (λ a. length v.frames ≤ length w.frames + a) (each_is c (hd.nodes - 1)) le
 
-  test_is : (test : FrameKind → Bool) (b : Bool) (k : FrameNo) → carries test ls (model.frame_no ls k) ≡ b →
+  test_is : (test : FrameKind → Bool) (b : Bool) (k : FrameNo) → carries test q.lines (model.frame_no q.lines k) ≡ b →
       frame_test (λ from to what. test what) (at_place (frame_number k w) w.frames) ≡ b
-  test_is test b k is = sym (frames (λ from to what. test what) (frame_number k w)) ∙ ap (carries test ls) (sym (number_is k)) ∙ is
+  test_is test b k is = sym (frames (λ from to what. test what) (frame_number k w)) ∙ ap (carries test q.lines) (sym (number_is k)) ∙ is
 
   abbrev Delivers : FrameNo → Option ℕ → Type 0
   Delivers k most = GoWithin hd.nodes (deliver (frame_number k w) w) → IfSome most (λ j. Adds j w (deliver (frame_number k w) w))
 
-  other_so : (k : FrameNo) (b : Bool) → carries is_hello ls (model.frame_no ls k) ≡ b →
-      Delivers k (cond b (Some (length (terms.acts ls) * others hd)) (Some (3 * others hd)))
-  other_so k true is within = times (length (terms.acts ls)) (deliver (frame_number k w) w)
-      (hello_adds hd w nodes numbers ups (frame_number k w) (length (terms.acts ls)) (test_is is_hello true k is)
+  other_so : (k : FrameNo) (b : Bool) → carries is_hello q.lines (model.frame_no q.lines k) ≡ b →
+      Delivers k (cond b (Some (length (terms.acts q.lines) * others hd)) (Some (3 * others hd)))
+  other_so k true is within = times (length (terms.acts q.lines)) (deliver (frame_number k w) w)
+      (hello_adds hd w nodes numbers ups (frame_number k w) (length (terms.acts q.lines)) (test_is is_hello true k is)
       (λ n x t there live. let f = few n x there in f.asked t live) within)
   other_so k false is within = times 3 (deliver (frame_number k w) w)
       (other_adds hd w nodes numbers ups (frame_number k w) (test_is is_hello false k is) within)
 
-  prepared_so : (k : FrameNo) (b : Bool) → carries is_prepared ls (model.frame_no ls k) ≡ b → (rest : Option ℕ) → Delivers k rest →
+  prepared_so : (k : FrameNo) (b : Bool) → carries is_prepared q.lines (model.frame_no q.lines k) ≡ b → (rest : Option ℕ) →
+      Delivers k rest →
       Delivers k (cond b (Some (2 * others hd)) rest)
   prepared_so k true is rest other within = times 2 (deliver (frame_number k w) w)
       (prepared_adds hd w nodes numbers ups (frame_number k w) (test_is is_prepared true k is) within)
   prepared_so k false is rest other within = other within
 
-  acked_so : (k : FrameNo) (b : Bool) → carries is_acked ls (model.frame_no ls k) ≡ b → (rest : Option ℕ) → Delivers k rest →
+  acked_so : (k : FrameNo) (b : Bool) → carries is_acked q.lines (model.frame_no q.lines k) ≡ b → (rest : Option ℕ) → Delivers k rest →
       Delivers k (cond b (Some (others hd)) rest)
   acked_so k true is rest other within = one (length (deliver (frame_number k w) w).frames) (length w.frames) (each 1 (hd.nodes - 1))
       (hd.nodes - 1) (each_is 1 (hd.nodes - 1)) (acked_adds hd w nodes numbers ups (frame_number k w) (test_is is_acked true k is) within)
@@ -478,22 +480,24 @@ module _ (hd : Header) (ls : List Words.Line) (w : World) (last : last_frame ls 
       one a b c n is le = omega (arith, is, le)
   acked_so k false is rest other within = other within
 
-  called_so : (k : FrameNo) (b c : Bool) → is_call_frame ls (model.frame_no ls k) ≡ b → is_answered_frame ls (model.frame_no ls k) ≡ c →
+  called_so : (k : FrameNo) (b c : Bool) → is_call_frame q.lines (model.frame_no q.lines k) ≡ b →
+      is_answered_frame q.lines (model.frame_no q.lines k) ≡ c →
       (rest : Option ℕ) → Delivers k rest → Delivers k (cond (b || c) (Some 1) rest)
   called_so k true c is back rest other within = deliver_frames (frame_number k w) w (test_is is_of_call true k is)
   called_so k false true is back rest other within = deliver_back (frame_number k w) w numbers
       (sym (frames (λ from to what. is_answered what && not (from == to)) (frame_number k w))
-      ∙ ap (is_answered_frame ls) (sym (number_is k)) ∙ back)
+      ∙ ap (is_answered_frame q.lines) (sym (number_is k)) ∙ back)
   called_so k false false is back rest other within = other within
 
-  delivered : (k : FrameNo) → Delivers k (most_delivered hd ls (model.frame_no ls k))
+  delivered : (k : FrameNo) → Delivers k (most_delivered hd q.lines (model.frame_no q.lines k))
   delivered k =
-      let i = model.frame_no ls k in
-      let late = cond (carries is_hello ls i) (Some (length (terms.acts ls) * others hd)) (Some (3 * others hd)) in
-      let more = cond (carries is_prepared ls i) (Some (2 * others hd)) late in
-      called_so k (is_call_frame ls i) (is_answered_frame ls i) refl refl (cond (carries is_acked ls i) (Some (others hd)) more)
-      (acked_so k (carries is_acked ls i) refl more (prepared_so k (carries is_prepared ls i) refl late
-      (other_so k (carries is_hello ls i) refl)))
+      let i = model.frame_no q.lines k in
+      let late = cond (carries is_hello q.lines i) (Some (length (terms.acts q.lines) * others hd)) (Some (3 * others hd)) in
+      let more = cond (carries is_prepared q.lines i) (Some (2 * others hd)) late in
+      called_so k (is_call_frame q.lines i) (is_answered_frame q.lines i) refl refl (cond (carries is_acked q.lines i) (Some (others
+      hd)) more)
+      (acked_so k (carries is_acked q.lines i) refl more (prepared_so k (carries is_prepared q.lines i) refl late
+      (other_so k (carries is_hello q.lines i) refl)))
 
   pub bounded : (e : Event) → Bound e
   bounded (event.Call l x op) a within = steps_frames 1 (node_of l w) (input.Call l x op) w (call_few w.header l x op)
@@ -502,15 +506,15 @@ module _ (hd : Header) (ls : List Words.Line) (w : World) (last : last_frame ls 
   bounded (event.Junk n bytes) a within = junk_frames n w
   bounded (event.Commit l) a within = times 4 (steps (node_of l w) (input.Commit l) w) (commit_adds hd w nodes numbers ups l within)
   bounded (event.Abort l) a within =
-      let c = length (aborted_of ls (act_in (terms.acts ls) (name l))) in
+      let c = length (aborted_of q.lines (act_in (terms.acts q.lines) (name l))) in
       times c (steps (node_of l w) (input.Abort l) w) (abort_adds hd w nodes numbers ups l c (ends l) within)
   bounded (event.GiveUp l) a within = times 2 (steps (node_of l w) (input.GiveUp l) w) (giveup_adds hd w nodes numbers ups l within)
-  bounded (event.Tick n) a within = times (7 * length (terms.acts ls)) (steps n input.Tick w)
-      (tick_adds hd w nodes numbers ups n (length (terms.acts ls)) (few n) within)
-  bounded (event.Restart n) a within = times (3 * length (terms.acts ls) + 1) (steps n input.Restart w)
-      (restart_adds hd w nodes numbers ups n (length (terms.acts ls)) (few n) within)
-  bounded event.Settle a within = settle_adds hd ls w world within
-  bounded event.Quiesce a within = quiesce_adds hd ls w world within
+  bounded (event.Tick n) a within = times (7 * length (terms.acts q.lines)) (steps n input.Tick w)
+      (tick_adds hd w nodes numbers ups n (length (terms.acts q.lines)) (few n) within)
+  bounded (event.Restart n) a within = times (3 * length (terms.acts q.lines) + 1) (steps n input.Restart w)
+      (restart_adds hd w nodes numbers ups n (length (terms.acts q.lines)) (few n) within)
+  bounded event.Settle a within = settle_adds hd q w world within
+  bounded event.Quiesce a within = quiesce_adds hd q w world within
   bounded (event.Begin l n) a within = begins_frames (record { label = l; kind = Words.kind.Top; parent = None; node = n }) w
   bounded (event.Serial l n) a within = begins_frames (record { label = l; kind = Words.kind.Serial; parent = None; node = n }) w
   bounded (event.BeginIn l p) a within =
@@ -533,26 +537,26 @@ if_all None P each = tt
 if_all (Some k) P each = each k
 
 -- an event that is refused, or not run, sends none
-module _ (hd : Header) (ls : List Words.Line) (w : World) (last : last_frame ls ≡ length w.frames)
-    (frames : (test : ℕ → ℕ → FrameKind → Bool) (k : ℕ) → frame_is test ls k ≡ frame_test test (at_place k w.frames))
+module _ (hd : Header) (q : Past) (w : World) (last : last_frame q.lines ≡ length w.frames)
+    (frames : (test : ℕ → ℕ → FrameKind → Bool) (k : ℕ) → frame_is test q.lines k ≡ frame_test test (at_place k w.frames))
     (numbers : (n : ℕ) (x : Node) → at_place n w.nodes ≡ Some x → x.number ≡ n)
     (nodes : (n : ℕ) (x : Node) → at_place n w.nodes ≡ Some x → IsNode hd n)
     (ups : (n : ℕ) (x : Node) → at_place n w.nodes ≡ Some x → UpNode x)
     (ends : (l : Label) (x : Node) (t : Parts) (b : Branch) → at_place (node_of l w) w.nodes ≡ Some x → x.live ≡ Some t →
     branch_named l t.coord ≡ Some b → is_some b.ended ≡ false →
     length (open_below (actor b.path) t.coord.tree ++ actor b.path ∷ [])
-    ≤ length (aborted_of ls (act_in (terms.acts ls) (name l))))
-    (few : (n : ℕ) (x : Node) → at_place n w.nodes ≡ Some x → FewAt (length (terms.acts ls)) x)
-    (world : IsSettling hd ls w)
+    ≤ length (aborted_of q.lines (act_in (terms.acts q.lines) (name l))))
+    (few : (n : ℕ) (x : Node) → at_place n w.nodes ≡ Some x → FewAt (length (terms.acts q.lines)) x)
+    (world : IsSettling hd q w)
     (m : Move) where
   abbrev In : World → Type 0
-  In v = GoWithin hd.nodes v → IfSome (most_sent hd ls (event_of m)) (λ k. Adds k w v)
+  In v = GoWithin hd.nodes v → IfSome (most_sent hd q (event_of m)) (λ k. Adds k w v)
 
   stays : (a b : ℕ) → a ≤ a + b
   stays a b = omega arith
 
   as_it_is : (v : World) → v.frames ≡ w.frames → In v
-  as_it_is v same within = if_all (most_sent hd ls (event_of m)) (λ k. Adds k w v)
+  as_it_is v same within = if_all (most_sent hd q (event_of m)) (λ k. Adds k w v)
       (λ k. subst (λ fs. length fs ≤ length w.frames + k) (sym same) (stays (length w.frames) k))
 
   abbrev u : World
@@ -560,10 +564,10 @@ module _ (hd : Header) (ls : List Words.Line) (w : World) (last : last_frame ls 
 
   fits : (b : Bool) → let v = happens (event_of m) (let a = m.asked in a.arm) (counted (record w { arms = m.falls })) in
       In (record (cond b (world_says (body.Limit Words.words.which.Frames ∷ []) (record v { over = true })) v) { arms = [] })
-  fits true = bounded hd ls (counted (record w { arms = m.falls })) last frames numbers nodes ups ends few (settling_on hd ls w m.falls
+  fits true = bounded hd q (counted (record w { arms = m.falls })) last frames numbers nodes ups ends few (settling_on hd q w m.falls
       world) (event_of m)
       (let a = m.asked in a.arm)
-  fits false = bounded hd ls (counted (record w { arms = m.falls })) last frames numbers nodes ups ends few (settling_on hd ls w m.falls
+  fits false = bounded hd q (counted (record w { arms = m.falls })) last frames numbers nodes ups ends few (settling_on hd q w m.falls
       world) (event_of m)
       (let a = m.asked in a.arm)
 
@@ -629,22 +633,21 @@ module _ (hd : Header) (form : HeaderInForm hd) (front : Run hd) (m : Move) (p :
       subst (λ ls. FewAt (length (terms.acts ls)) x) (sym (ties.same_lines hd form p (world_by hd front) s.all))
       (few_at hd (see h.sent (world_by hd front)) h.holds n x there)
 
-  settles : IsSettling hd p.lines (world_by hd front)
+  settles : IsSettling hd p (world_by hd front)
   settles =
       let h : Holds hd KnownUp (world_by hd front) = moves_asked hd KnownUp (known_up hd) front in
-      settling_of hd p.lines (world_by hd front) (ties.same_lines hd form p (world_by hd front) s.all) h nodes before_tells.pending
-      (before_tells.frames (λ from to what. is_hello what))
+      settling_of hd form p (world_by hd front) s.all h before_tells.pending (before_tells.frames (λ from to what. is_hello what))
 
   pub within : GoWithin hd.nodes (moved m (world_by hd front))
   within = within_of hd form (moved m (world_by hd front)) (move_asked hd (AreAddressed hd) (kept hd form) m (world_by hd front)
       (moves_asked hd (AreAddressed hd) (kept hd form) front))
 
   pub sends_few : SendsStep hd p (event_of m) bodies
-  sends_few = if_less (most_sent hd p.lines (event_of m)) (λ k. Adds k (world_by hd front) (moved m (world_by hd front)))
+  sends_few = if_less (most_sent hd p (event_of m)) (λ k. Adds k (world_by hd front) (moved m (world_by hd front)))
       (λ k. last_frame (let q = next p (event_of m) bodies in q.lines) ≤ last_frame p.lines + k)
       (λ k le. subst (λ n. n ≤ last_frame p.lines + k) (sym behind_tells.last)
       (subst (λ n. length (let v = moved m (world_by hd front) in v.frames) ≤ n + k) (sym before_tells.last) le))
-      (moved_few hd p.lines (world_by hd front) before_tells.last before_tells.frames numbers nodes ups ends few settles m within)
+      (moved_few hd p (world_by hd front) before_tells.last before_tells.frames numbers nodes ups ends few settles m within)
 
 -- so it is of each event of a run
 pub runs_send_few : RunsSendFew

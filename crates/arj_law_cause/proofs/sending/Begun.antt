@@ -2,7 +2,7 @@
 use Rattle.arj_law_parts.proofs.Words
 use Words.{◌≡◌, ◌∙◌, ◌≤◌, ◌==◌, not, ℕ, suc, Bool, true, false, cond, List, [], ◌∷◌, ◌++◌, filter, length, map, refl, sym, ap, subst}
 use Words.{arith}
-use Words.{inl, inr, AllByRecursion, Some, In, in_from, in_to, Ordering, Less, Equal, Greater}
+use Words.{inl, inr, AllByRecursion, Some, In, in_from, in_to, Contains, Ordering, Less, Equal, Greater}
 use Words.{match_ordering}
 use Words.{uid_eq, uid_is, uid_order, uid_same, Uid, put_uid, uid_set, with_uid, Parts, Node, Header, holders}
 use Words.{◌&&◌, prepared_actions, server_holders, locks_of, at_uid, Intent}
@@ -27,82 +27,88 @@ use Rattle.arj_law_cause.proofs.spelled.Lists.{filter_shorter}
 
 -- ---- actions, each once
 
--- so it is of each key
-abbrev AreBegunAll : {X : Type 0} → List Action → List (Uid × X) → Type 0
-AreBegunAll {X} begun m = AllByRecursion (λ (e : Uid × X). IsBegun begun e.0) m
+-- of actions in whichever words, each with its Uid
+module _ {A : Type 0} (of : A → Uid) where
+  -- one of these has this Uid
+  abbrev pub IsOneOf : List A → Uid → Type 0
+  IsOneOf begun u = (a : A) × Contains begun a × (of a ≡ u)
 
--- another action than this
-abbrev isnt : Uid → Action → Bool
-isnt u a = not (uid_eq (act_of a) u)
+  -- so it is of each key
+  abbrev pub AreOneOf : {X : Type 0} → List A → List (Uid × X) → Type 0
+  AreOneOf {X} begun m = AllByRecursion (λ (e : Uid × X). IsOneOf begun e.0) m
 
-is_in : (test : Action → Bool) (a : Action) (xs : List Action) → In a xs → test a ≡ true → In a (filter test xs)
-is_in test a [] there on = absurd there
-is_in test a (x ∷ xs) (inl same) on = by (test x) (ap test same ∙ on)
-  where
-    by : (b : Bool) → b ≡ true → In a (cond b (x ∷ filter test xs) (filter test xs))
-    by true is = inl same
-    by false is = absurd (cc is)
-is_in test a (x ∷ xs) (inr there) on = by (test x) (is_in test a xs there on)
-  where
-    by : (b : Bool) → In a (filter test xs) → In a (cond b (x ∷ filter test xs) (filter test xs))
-    by true i = inr i
-    by false i = i
+  -- another action than this
+  abbrev isnt : Uid → A → Bool
+  isnt u a = not (uid_eq (of a) u)
 
--- without one that is there they are fewer
-fewer : (test : Action → Bool) (a : Action) (xs : List Action) → In a xs → test a ≡ false → suc (length (filter test xs)) ≤ length xs
-fewer test a [] there off = absurd there
-fewer test a (x ∷ xs) (inl same) off = by (test x) (ap test same ∙ off) (filter_shorter test xs)
-  where
-    one : (p q : ℕ) → p ≤ q → suc p ≤ suc q
-    one p q le = omega (arith, le)
-
-    by : (b : Bool) → b ≡ false → length (filter test xs) ≤ length xs →
-        suc (length (cond b (x ∷ filter test xs) (filter test xs))) ≤ suc (length xs)
-    by true is le = absurd (cc is)
-    by false is le = one (length (filter test xs)) (length xs) le
-fewer test a (x ∷ xs) (inr there) off = by (test x) (fewer test a xs there off)
-  where
-    one : (p q : ℕ) → suc p ≤ q → suc (suc p) ≤ suc q
-    one p q le = omega (arith, le)
-
-    none : (p q : ℕ) → suc p ≤ q → suc p ≤ suc q
-    none p q le = omega (arith, le)
-
-    by : (b : Bool) → suc (length (filter test xs)) ≤ length xs →
-        suc (length (cond b (x ∷ filter test xs) (filter test xs))) ≤ suc (length xs)
-    by true le = one (length (filter test xs)) (length xs) le
-    by false le = none (length (filter test xs)) (length xs) le
-
-module _ {X : Type 0} where
-  -- what stands behind a key is begun also among the others
-  others : (u : Uid) (begun : List Action) (m : List (Uid × X)) → AreAbove u m → AreBegunAll begun m → AreBegunAll (filter (isnt u) begun) m
-  others u begun [] above all = tt
-  others u begun (e ∷ es) above all =
-      let a = all.0.0 in (
-        (a, in_to a (filter (isnt u) begun) (is_in (isnt u) a begun (in_from a begun all.0.1) (on (uid_eq (act_of a) u) refl)), all.0.2),
-        others u begun es above.1 all.1,
-      )
+  pub is_in : (test : A → Bool) (a : A) (xs : List A) → In a xs → test a ≡ true → In a (filter test xs)
+  is_in test a [] there on = absurd there
+  is_in test a (x ∷ xs) (inl same) on = by (test x) (ap test same ∙ on)
     where
-      on : (b : Bool) → uid_eq (act_of all.0.0) u ≡ b → not b ≡ true
-      on false is = refl
-      on true is =
-          let same : e.0 ≡ u = sym all.0.2 ∙ uid_is (act_of all.0.0) u is in
-          let no_way : ◌≡◌ {A = Ordering} Less Equal = sym above.0 ∙ ap (uid_order u) same ∙ order_itself u in absurd (cc no_way)
+      by : (b : Bool) → b ≡ true → In a (cond b (x ∷ filter test xs) (filter test xs))
+      by true is = inl same
+      by false is = absurd (cc is)
+  is_in test a (x ∷ xs) (inr there) on = by (test x) (is_in test a xs there on)
+    where
+      by : (b : Bool) → In a (filter test xs) → In a (cond b (x ∷ filter test xs) (filter test xs))
+      by true i = inr i
+      by false i = i
 
-  -- keys that increase are no more than the actions, of which each is one
-  pub no_more : (m : List (Uid × X)) (begun : List Action) → AreSorted m → AreBegunAll begun m → length m ≤ length begun
-  no_more [] begun sorted all = least (length begun)
+  -- without one that is there they are fewer
+  fewer : (test : A → Bool) (a : A) (xs : List A) → In a xs → test a ≡ false → suc (length (filter test xs)) ≤ length xs
+  fewer test a [] there off = absurd there
+  fewer test a (x ∷ xs) (inl same) off = by (test x) (ap test same ∙ off) (filter_shorter test xs)
     where
-      least : (a : ℕ) → 0 ≤ a
-      least a = omega arith
-  no_more (e ∷ es) begun sorted all =
-      let a = all.0.0 in
-      less (length es) (length (filter (isnt e.0) begun)) (length begun)
-      (no_more es (filter (isnt e.0) begun) sorted.1 (others e.0 begun es sorted.0 all.1))
-      (fewer (isnt e.0) a begun (in_from a begun all.0.1) (ap (λ u. not (uid_eq u e.0)) all.0.2 ∙ ap not (uid_same e.0)))
+      one : (p q : ℕ) → p ≤ q → suc p ≤ suc q
+      one p q le = omega (arith, le)
+
+      by : (b : Bool) → b ≡ false → length (filter test xs) ≤ length xs →
+          suc (length (cond b (x ∷ filter test xs) (filter test xs))) ≤ suc (length xs)
+      by true is le = absurd (cc is)
+      by false is le = one (length (filter test xs)) (length xs) le
+  fewer test a (x ∷ xs) (inr there) off = by (test x) (fewer test a xs there off)
     where
-      less : (a b c : ℕ) → a ≤ b → suc b ≤ c → suc a ≤ c
-      less a b c x y = omega (arith, x, y)
+      one : (p q : ℕ) → suc p ≤ q → suc (suc p) ≤ suc q
+      one p q le = omega (arith, le)
+
+      none : (p q : ℕ) → suc p ≤ q → suc p ≤ suc q
+      none p q le = omega (arith, le)
+
+      by : (b : Bool) → suc (length (filter test xs)) ≤ length xs →
+          suc (length (cond b (x ∷ filter test xs) (filter test xs))) ≤ suc (length xs)
+      by true le = one (length (filter test xs)) (length xs) le
+      by false le = none (length (filter test xs)) (length xs) le
+
+  module _ {X : Type 0} where
+    -- what stands behind a key is begun also among the others
+    others : (u : Uid) (begun : List A) (m : List (Uid × X)) → AreAbove u m → AreOneOf begun m → AreOneOf (filter (isnt u) begun) m
+    others u begun [] above all = tt
+    others u begun (e ∷ es) above all =
+        let a = all.0.0 in (
+          (a, in_to a (filter (isnt u) begun) (is_in (isnt u) a begun (in_from a begun all.0.1) (on (uid_eq (of a) u) refl)), all.0.2),
+          others u begun es above.1 all.1,
+        )
+      where
+        on : (b : Bool) → uid_eq (of all.0.0) u ≡ b → not b ≡ true
+        on false is = refl
+        on true is =
+            let same : e.0 ≡ u = sym all.0.2 ∙ uid_is (of all.0.0) u is in
+            let no_way : ◌≡◌ {A = Ordering} Less Equal = sym above.0 ∙ ap (uid_order u) same ∙ order_itself u in absurd (cc no_way)
+
+    -- keys that increase are no more than the actions, of which each is one
+    pub no_more : (m : List (Uid × X)) (begun : List A) → AreSorted m → AreOneOf begun m → length m ≤ length begun
+    no_more [] begun sorted all = least (length begun)
+      where
+        least : (a : ℕ) → 0 ≤ a
+        least a = omega arith
+    no_more (e ∷ es) begun sorted all =
+        let a = all.0.0 in
+        less (length es) (length (filter (isnt e.0) begun)) (length begun)
+        (no_more es (filter (isnt e.0) begun) sorted.1 (others e.0 begun es sorted.0 all.1))
+        (fewer (isnt e.0) a begun (in_from a begun all.0.1) (ap (λ u. not (uid_eq u e.0)) all.0.2 ∙ ap not (uid_same e.0)))
+      where
+        less : (a b c : ℕ) → a ≤ b → suc b ≤ c → suc a ≤ c
+        less a b c x y = omega (arith, x, y)
 
 -- ---- sets
 
@@ -125,13 +131,13 @@ set_sorted : (us : List Uid) → AreSorted (keyed (uid_set us))
 set_sorted [] = tt
 set_sorted (u ∷ us) = subst AreSorted (sym (keyed_with u (uid_set us))) (sorted_put u 0 (keyed (uid_set us)) (set_sorted us))
 
-keys_begun : (begun : List Action) (us : List Uid) → AllByRecursion (IsBegun begun) us → AreBegunAll begun (keyed us)
+keys_begun : (begun : List Action) (us : List Uid) → AllByRecursion (IsBegun begun) us → AreOneOf act_of begun (keyed us)
 keys_begun begun [] all = tt
 keys_begun begun (u ∷ us) all = (all.0, keys_begun begun us all.1)
 
 set_no_more : (begun : List Action) (us : List Uid) → AllByRecursion (IsBegun begun) (uid_set us) → length (uid_set us) ≤ length begun
 set_no_more begun us all = subst (λ n. n ≤ length begun) (length-map {A = Uid} {B = Uid × ℕ} (uid_set us) (λ u. (u, 0)))
-    (no_more (keyed (uid_set us)) begun (set_sorted us) (keys_begun begun (uid_set us) all))
+    (no_more act_of (keyed (uid_set us)) begun (set_sorted us) (keys_begun begun (uid_set us) all))
 
 all_from : {A : Type 0} (P : A → Type 0) (xs : List A) → ((x : A) → In x xs → P x) → AllByRecursion P xs
 all_from P [] each = tt
@@ -163,7 +169,7 @@ pub record FewAt (a : ℕ) (x : Node) : Type 0 where
 module _ {X : Type 0} where
   -- what is found under each key of a sorted map
   all_begun : (begun : List Action) (m : List (Uid × X)) → AreSorted m → ((u : Uid) (x : X) → at_uid u m ≡ Some x → IsBegun begun u) →
-      AreBegunAll begun m
+      AreOneOf act_of begun m
   all_begun begun m sorted found = all_from (λ (e : Uid × X). IsBegun begun e.0) m (λ e i. found e.0 e.1 (in_at e m sorted i))
 
 -- at a node of what is known
@@ -191,7 +197,7 @@ module _ (hd : Header) (M : Seen) (known : Known M) where
 
   few_map : {X : Type 0} (m : List (Uid × X)) → AreSorted m → ((u : Uid) (x : X) → at_uid u m ≡ Some x → IsBegun begun u) →
       length m ≤ length (acts M.lines)
-  few_map m sorted found = within (length m) (no_more m begun sorted (all_begun begun m sorted found))
+  few_map m sorted found = within (length m) (no_more act_of m begun sorted (all_begun begun m sorted found))
 
   module _ (k : ℕ) (x : Node) (here : M.nodes k ≡ Some x) where
     its : IsRecorded begun x
@@ -216,15 +222,9 @@ module _ (hd : Header) (M : Seen) (known : Known M) where
         few_set (server_holders t.server ++ locks_of t.naming ++ prepared_actions d.store ++ prepared_actions d.names)
         (holders_begun begun good.begun d t p.store p.names (record { calls = l.calls; keys = l.keys; entries = l.entries }))
 
-    up_here : (t : Parts) → x.live ≡ Some t → IsUp begun M.sent M.labels k (let d = x.disk in d.inc) t
+    pub up_here : (t : Parts) → x.live ≡ Some t → IsUp begun M.sent M.labels k (let d = x.disk in d.inc) t
     up_here t live = let g = good in let p = g.places k x here in
         subst (IsMemory begun M.sent M.labels k (let d = x.disk in d.inc)) live p.memory
-
-    pub works_counted : (t : Parts) → x.live ≡ Some t → (i : ℕ) × (length t.coord.doings ≡ count_of k i (acts M.lines))
-    works_counted t live =
-        let u = up_here t live in
-        let f = u.faithful in
-        let n = (known.1.1 k x here).1 t live in ((let d = x.disk in d.inc), f.works ∙ sym n.1)
 
     works_few : (t : Parts) → x.live ≡ Some t → length t.coord.doings ≤ length (acts M.lines)
     works_few t live =

@@ -83,8 +83,7 @@ module _ (hd : Header) where
   -- ---- what an event sends
 
   -- What is known of each event: how many frames it sends, its lines, that the limit is met at so many frames, and that a node is greeted
-  -- only
-  -- once a line says that one came up.
+  -- only once a line says that one came up.
   pub record LightStep (p : Past) (e : Event) (bodies : List Body) : Type 0 where
     pub sends : SendsStep hd p e bodies
     pub lines : LinesStep hd p e bodies
@@ -204,7 +203,7 @@ module _ (hd : Header) where
       adds = kinds e refl light s.sends
         where
           kinds : (z : Event) → e ≡ z → is_light z ≡ true →
-              IfSome (most_sent hd p.lines z) (λ m. last_frame q.lines ≤ last_frame p.lines + m) → Adds
+              IfSome (most_sent hd p z) (λ m. last_frame q.lines ≤ last_frame p.lines + m) → Adds
           kinds (event.Call l x o) is on sends = within 1 (omega arith) sends
           kinds (event.Include l x n) is on sends = within 1 (omega arith) sends
           kinds (event.Junk n bytes) is on sends = within 1 (omega arith) sends

@@ -1,6 +1,5 @@
 -- The nodes for which a commit waits, those that it tells of its end, and those of records stand in increasing order, each once, and what
--- an
--- action is at is its own: at each node of a run, and after each message that a node takes.
+-- an action is at is its own: at each node of a run, and after each message that a node takes.
 use Rattle.arj_law_parts.proofs.Words
 use Words.{◌≡◌, ◌∙◌, ◌+◌, ◌==◌, ◌||◌, ℕ, Bool, true, false, cond, List, [], ◌∷◌, ◌++◌, map, refl, sym, ap, subst, ⊤, and_parts, list_all}
 use Words.{AllByRecursion, Option, Some, None, Uid, Header, End, Ask, Path, again_all, again_now, asks_all, asks_node}

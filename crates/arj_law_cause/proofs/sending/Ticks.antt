@@ -1,5 +1,5 @@
--- What a tick and a restart lead to: to each other node so many messages for each action at work, for each record, and for each action that
--- is asked about.
+-- What a tick and a restart lead to: to each other node so many messages for each action at work, for each record, and for each action
+-- that is asked about.
 use Rattle.arj_law_parts.proofs.Words
 use Words.{◌≡◌, ◌≤◌, ◌<◌, ◌∙◌, ◌+◌, ◌*◌, ◌==◌, ◌&&◌, not, ℕ, zero, suc, Bool, true, false, cond, List, [], ◌∷◌, ◌++◌, map, length}
 use Words.{refl, sym, subst, arith, nat_tests, slice_get, AllByRecursion, Some, None, Disk, Do, Effect, Say}

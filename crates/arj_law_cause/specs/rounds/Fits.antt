@@ -45,13 +45,10 @@ LightFit es journal = list_all is_light es ≡ true → length es + asked_aborts
 -- ---- any events
 
 -- What an event adds at most to the frames that are sent, counting each with all that it leads to, in a run in which so many actions
--- begin: a
--- call or an include ten; a commit two to each node for each of its steps, and at its end one that tells of it, with an acknowledgement,
--- and
--- one to each node behind that; an abort one to each node for each action; bytes that are handed over one; what is delivered again a
--- question
--- for each action at most; a tick, a restart and a quiesce what they send, with all that it leads to. A settle adds none: what it sends was
--- counted.
+-- begin: a call or an include ten; a commit two to each node for each of its steps, and at its end one that tells of it, with an
+-- acknowledgement, and one to each node behind that; an abort one to each node for each action; bytes that are handed over one; what is
+-- delivered again a question for each action at most; a tick, a restart and a quiesce what they send, with all that it leads to. A settle
+-- adds none: what it sends was counted.
 abbrev pub most_added : Header → ℕ → Event → ℕ
 most_added hd a (event.Call l x op) = 10
 most_added hd a (event.Include l x n) = 10

@@ -1,5 +1,5 @@
 -- How many frames an event sends at most.
-use Rattle.std.specs.Prelude.{◌≤◌, ◌+◌, ◌-◌, ◌*◌, ◌==◌, ◌&&◌, ◌||◌, length, not, ℕ, List, Bool, true, false, if◌then◌else◌, IfSome}
+use Rattle.std.specs.Prelude.{◌≤◌, ◌+◌, ◌-◌, ◌*◌, ◌==◌, ◌&&◌, ◌||◌, length, filter, not, ℕ, List, Bool, true, false, if◌then◌else◌, IfSome}
 use Rattle.std.specs.Prelude.{[], ◌∷◌, Option, Some}
 use Rattle.arj_journal.specs.declared.body.Body.{Body}
 use Rattle.arj_journal.specs.declared.body.FrameKind.{FrameKind}
@@ -9,12 +9,12 @@ use Rattle.arj_journal.specs.declared.event.Event.{Event}
 use Rattle.arj_journal.specs.declared.event.Event.TheVariants as event
 use Rattle.arj_journal.specs.declared.header.Header.{Header}
 use Rattle.arj_text.specs.Label.{name}
-use Rattle.arj_model.specs.Actions.{act_in, acts}
+use Rattle.arj_model.specs.Actions.{Act, act_in, acts}
 use Rattle.arj_model.specs.CausePends.{frame_is}
 use Rattle.arj_model.specs.Follows.{Runs}
 use Rattle.arj_model.specs.Own.{aborted_of}
 use Rattle.arj_model.specs.Past.{Past, next}
-use Rattle.arj_model.specs.Refusals.{frame_no, last_frame, open_frames}
+use Rattle.arj_model.specs.Refusals.{frame_no, is_waiting, last_frame, open_frames}
 use Rattle.arj_law_runs.specs.follow.Frames.{run_events}
 use Rattle.arj_promise.specs.Runs.{IsInForm, Run, journal_by}
 
@@ -94,38 +94,41 @@ abbrev pub all_led : Header → List Line → List ℕ → ℕ
 all_led hd lines [] = 0
 all_led hd lines (k ∷ ks) = most_led hd lines k + all_led hd lines ks
 
--- A settle sends what open frames lead to, and what actions that began have to do still: eight for what is left of a call, or to each node
+-- how many actions wait, for a call, an include or their commit
+abbrev pub waiting : Past → ℕ
+waiting past = length (filter (λ (a : Act). is_waiting past a.label) (acts past.lines))
+
+-- A settle sends what open frames lead to, and what actions that wait have to do still: eight for what is left of a call, or to each node
 -- two by which states are prepared, and at its end one that tells of it, with an acknowledgement, and one to each node behind that.
-abbrev pub most_settled : Header → List Line → ℕ
-most_settled hd lines = all_led hd lines (open_frames lines) + (hd.nodes * (hd.nodes + 4) + 8) * length (acts lines)
+abbrev pub most_settled : Header → Past → ℕ
+most_settled hd past = all_led hd past.lines (open_frames past.lines) + (hd.nodes * (hd.nodes + 4) + 8) * waiting past
 
 -- A quiesce sends as many, and each node that ticks what is sent again for each action that began, and what that leads to: two to each node
 -- for what it waits with, one that tells of its end, with what that leads to, and one question.
-abbrev pub most_quiesced : Header → List Line → ℕ
-most_quiesced hd lines = most_settled hd lines + hd.nodes * ((hd.nodes * (hd.nodes + 5) + 5) * length (acts lines))
+abbrev pub most_quiesced : Header → Past → ℕ
+most_quiesced hd past = most_settled hd past + hd.nodes * ((hd.nodes * (hd.nodes + 5) + 5) * length (acts past.lines))
 
--- How many frames the event sends at most, where these lines stand before it: one where it calls or includes, or hands over bytes; what a
--- delivery may; to each other node four where an action commits, two where it is given up, and one for each open action that an abort ends;
--- to each other node seven for each action that began where a node ticks: four for what it waits with, two for its record, and one
--- question;
--- and three for each where a node restarts, with a hello besides; what a settle and a quiesce may; and none where it is any other.
-abbrev pub most_sent : Header → List Line → Event → Option ℕ
-most_sent hd lines (event.Call l x op) = Some 1
-most_sent hd lines (event.Include l x n) = Some 1
-most_sent hd lines (event.Deliver k) = most_delivered hd lines (frame_no lines k)
-most_sent hd lines (event.Junk n bytes) = Some 1
-most_sent hd lines (event.Commit l) = Some (4 * others hd)
-most_sent hd lines (event.Abort l) = Some (length (aborted_of lines (act_in (acts lines) (name l))) * others hd)
-most_sent hd lines (event.GiveUp l) = Some (2 * others hd)
-most_sent hd lines (event.Tick n) = Some ((7 * length (acts lines)) * others hd)
-most_sent hd lines (event.Restart n) = Some ((3 * length (acts lines) + 1) * others hd)
-most_sent hd lines event.Settle = Some (most_settled hd lines)
-most_sent hd lines event.Quiesce = Some (most_quiesced hd lines)
-most_sent hd lines e = Some 0
+-- How many frames the event sends at most, in a run so far: one where it calls or includes, or hands over bytes; what a delivery may; to
+-- each other node four where an action commits, two where it is given up, and one for each open action that an abort ends; to each other
+-- node seven for each action that began where a node ticks: four for what it waits with, two for its record, and one question; and three
+-- for each where a node restarts, with a hello besides; what a settle and a quiesce may; and none where it is any other.
+abbrev pub most_sent : Header → Past → Event → Option ℕ
+most_sent hd past (event.Call l x op) = Some 1
+most_sent hd past (event.Include l x n) = Some 1
+most_sent hd past (event.Deliver k) = most_delivered hd past.lines (frame_no past.lines k)
+most_sent hd past (event.Junk n bytes) = Some 1
+most_sent hd past (event.Commit l) = Some (4 * others hd)
+most_sent hd past (event.Abort l) = Some (length (aborted_of past.lines (act_in (acts past.lines) (name l))) * others hd)
+most_sent hd past (event.GiveUp l) = Some (2 * others hd)
+most_sent hd past (event.Tick n) = Some ((7 * length (acts past.lines)) * others hd)
+most_sent hd past (event.Restart n) = Some ((3 * length (acts past.lines) + 1) * others hd)
+most_sent hd past event.Settle = Some (most_settled hd past)
+most_sent hd past event.Quiesce = Some (most_quiesced hd past)
+most_sent hd past e = Some 0
 
 -- so many at most are sent in it, by the numbers of the last frames before it and behind it
 abbrev pub SendsStep : Header → Past → Event → List Body → Type 0
-SendsStep hd past e bodies = IfSome (most_sent hd past.lines e) (λ k. last_frame (next past e bodies).lines ≤ last_frame past.lines + k)
+SendsStep hd past e bodies = IfSome (most_sent hd past e) (λ k. last_frame (next past e bodies).lines ≤ last_frame past.lines + k)
 
 -- so it is of each event of a run
 abbrev pub RunsSendFew : Type 0
