@@ -179,6 +179,36 @@ conflict_unsaid = run
 conflict_unsaid_has_causes : lacking conflict_unsaid ≡ []
 conflict_unsaid_has_causes = refl
 
+-- a top commits whose store stopped before the line of what it prepared, and was asked again
+abbrev pub committed_unsaid : Run
+committed_unsaid = run
+    (nodes 3 (object_line 1 (value.Counter 0) (1 ∷ []) (2 ∷ []) ∷ []))
+    ((event.Begin (l 65) 1, body.Began (l 65) kind.Top (u 1 1 1) None ∷ [])
+    ∷ (
+      event.Call (l 65) 1 (op.Add 1),
+      body.Granted 1 (u 1 1 1) (u 0 1 1) Write ∷ body.Bound 1 (b 1 1) 1 ∷ body.Sent 1 1 2 frame.Load ∷ [],
+    )
+    ∷ (
+      event.Settle,
+      body.Got 1 ∷ body.Sent 2 2 1 frame.Loaded ∷ body.Got 2 ∷ body.Active 1 1 (b 1 1) ∷ body.Lowered 1 (u 1 1 1) (u 0 1 1)
+          ∷ body.Granted 1 (u 1 1 1) (u 0 0 1) Write ∷ body.Ok (l 65) 1 (op.Add 1) (codes "done") ∷ [],
+    )
+    ∷ (event.Commit (l 65), body.Committing (l 65) ∷ body.Sent 3 1 2 frame.Prepare ∷ [])
+    ∷ (event.Stop 2 3 stop.Done, body.Armed 2 ∷ [])
+    ∷ (event.Deliver Last, body.Got 3 ∷ body.Halted 2 ∷ [])
+    ∷ (event.Restart 2, body.Up 2 2 ∷ body.Sent 4 2 1 frame.Query ∷ body.Sent 5 2 1 frame.Hello ∷ body.Sent 6 2 3 frame.Hello ∷ [])
+    ∷ (event.Tick 1, body.Sent 7 1 2 frame.Prepare ∷ [])
+    ∷ (
+      event.Settle,
+      body.Got 4 ∷ body.Got 5 ∷ body.Got 6 ∷ body.Got 7 ∷ body.Sent 8 2 1 frame.Prepared ∷ body.Got 8 ∷ body.Committed (l 65)
+          ∷ body.Sent 9 1 2 frame.Told ∷ body.Told 1 (u 1 1 1) Commit part.Naming ∷ body.Told 1 (u 1 1 1) Commit part.Server
+          ∷ body.Got 9 ∷ body.Done 2 (u 1 1 1) role.Store Commit ∷ body.Sent 10 2 1 frame.Acked ∷ body.Got 10 ∷ [],
+    )
+    ∷ [])
+
+committed_unsaid_has_causes : lacking committed_unsaid ≡ []
+committed_unsaid_has_causes = refl
+
 -- a store is excluded that has another top in doubt
 abbrev pub excluded_pending : Run
 excluded_pending = run

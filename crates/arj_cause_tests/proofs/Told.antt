@@ -24,7 +24,7 @@ use Rattle.arj_law_cause.specs.kinds.Kinds.{is_lock_lowered, is_lost_commit, is_
 use Rattle.arj_law_cause.specs.kinds.Kinds.{is_quiet, is_sent}
 use Rattle.arj_law_cause.specs.kinds.Kinds.{is_up, is_void}
 use Rattle.arj_law_cause.specs.kinds.Rows.{row, tested}
-use Rattle.arj_law_cause.specs.kinds.Tests.{is_changed_so, is_committed_so}
+use Rattle.arj_law_cause.specs.kinds.Tests.{is_changed_so}
 use Rattle.arj_law_cause.specs.rows.Lines.{answer_fits}
 use Rattle.arj_law_cause.specs.waits.replies.Ends.{RepliesStep}
 use Rattle.arj_cause_tests.proofs.Words.{Run, after, b, end_from, instead, l, nodes, object_line, of_other_event, run, u, without}
@@ -34,7 +34,7 @@ use Rattle.arj_cause_tests.proofs.Worked.{stop_at_decision_done}
 use Rattle.arj_cause_tests.proofs.Rare.{aborted_changed_bind, aborted_conflict, aborted_lost, aborted_old, changed_bind_naming}
 use Rattle.arj_cause_tests.proofs.Rare.{restarted_naming}
 use Rattle.arj_cause_tests.proofs.Rarer.{changed_bind_server, changed_inc_naming, changed_inc_server, conflict_pending, conflict_unsaid}
-use Rattle.arj_cause_tests.proofs.Rarer.{excluded_pending}
+use Rattle.arj_cause_tests.proofs.Rarer.{committed_unsaid, excluded_pending}
 use Rattle.arj_cause_tests.proofs.WrongEvents.{begins, two_nodes}
 use Rattle.arj_cause_tests.proofs.WrongShows.{failing_from}
 
@@ -153,19 +153,45 @@ no_commit_called : failing_of is_opening (of_other_event 5 event.Settle conflict
 no_commit_called = refl
 
 -- `committed`: a nested action in another event, and a top before its commit is called
-committed_apart : failing (tested is_committed_so (λ h. is_committed)) (of_other_event 15 event.Settle rebinding) ≡ 36 ∷ []
+committed_apart : failing_of is_committed (of_other_event 15 event.Settle rebinding) ≡ 36 ∷ []
 committed_apart = refl
 
-committed_early : failing (tested is_committed_so (λ h. is_committed)) (after 37 (body.Committed (l 65) ∷ []) rebinding) ≡ 38 ∷ 47 ∷ []
+committed_early : failing_of is_committed (after 37 (body.Committed (l 65) ∷ []) rebinding) ≡ 38 ∷ 47 ∷ []
 committed_early = refl
 
--- a listed store hasn't prepared what it wrote; nor has one that stopped, but was sent no Prepare
-committed_unprepared : failing (tested is_committed_so (λ h. is_committed)) (without 17 exclusion) ≡ 23 ∷ []
+-- a listed store hasn't prepared what it wrote: it said nothing, or it prepared at another node, for another action, or as naming
+committed_unprepared : failing_of is_committed (without 17 exclusion) ≡ 23 ∷ []
 committed_unprepared = refl
 
-committed_unasked : failing (tested is_committed_so (λ h. is_committed))
-    (instead 17 (body.Halted 2) (instead 13 (body.Sent 3 1 2 frame.Vote) exclusion)) ≡ 24 ∷ []
+committed_elsewhere : failing_of is_committed (instead 17 (body.Prepared 3 (u 1 1 1) role.Store) exclusion) ≡ 24 ∷ []
+committed_elsewhere = refl
+
+committed_other : failing_of is_committed (instead 17 (body.Prepared 2 (u 1 1 2) role.Store) exclusion) ≡ 24 ∷ []
+committed_other = refl
+
+committed_names : failing_of is_committed (instead 17 (body.Prepared 2 (u 1 1 1) role.Names) exclusion) ≡ 24 ∷ []
+committed_names = refl
+
+-- before the commit was called it had
+committed_before : failing_of is_committed (after 11 (body.Prepared 2 (u 1 1 1) role.Store ∷ []) (without 17 exclusion)) ≡ 24 ∷ []
+committed_before = refl
+
+-- nor has one that stopped, but was sent no Prepare, took another frame as it stopped, or one of an earlier event, or crashed; nor has it
+-- where another node stopped
+committed_unasked : failing_of is_committed (instead 13 (body.Sent 3 1 2 frame.Vote) committed_unsaid) ≡ 28 ∷ []
 committed_unasked = refl
+
+committed_taking : failing_of is_committed (instead 15 (body.Got 2) committed_unsaid) ≡ 28 ∷ []
+committed_taking = refl
+
+committed_untaken : failing_of is_committed (without 16 (after 14 (body.Got 3 ∷ []) committed_unsaid)) ≡ 28 ∷ []
+committed_untaken = refl
+
+committed_crashed : failing_of is_committed (of_other_event 6 (event.Crash 2) committed_unsaid) ≡ 28 ∷ []
+committed_crashed = refl
+
+committed_apart_stop : failing_of is_committed (instead 16 (body.Halted 3) committed_unsaid) ≡ 28 ∷ []
+committed_apart_stop = refl
 
 -- `armed`: nothing is armed
 armed : failing_of is_armed (of_other_event 5 event.Settle stop_at_decision_done) ≡ 15 ∷ []

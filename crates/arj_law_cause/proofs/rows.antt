@@ -1,13 +1,12 @@
 -- What answers say of the journal's tables, and that it is so; and that the lines of answers have their causes.
 --
 -- A conflict is with the first row that stands against what was asked, and an operation is run in its lock (`Meeting`). Inside of an event
--- all lines are of it (`Inside`), so tables show locks there, of actions that began (`Holders`), what a store has in doubt was prepared
--- there or asked for (`Pending`, `Asked`), and is pending there: its work comes with its line (`Pends`, `Fair`), so that is so where more
--- is known of whoever is asked (`Watching`, `Watches`): a node
--- that stops before the line takes a Prepare then, by the lines of its step (`Stops`), in each step of a node (`Stepped`) and each event
--- (`Worlds`). It is at one that may be a store of it, as whoever loads asks (`Stores`, and of what roots keep and plans have `Lists`), and
--- of an action that has changed it (`Changing`), and whoever answers says what the table has (`Telling`). Event by event so it is in whole
--- runs (`Running`), and the first conflicts of tables and of nodes are the same at each moment (`Agreeing`).
+-- all lines are of it (`Inside`), so tables show locks there, of actions that began (`Holders`), and what a store has in doubt is pending
+-- there: its work comes with its line (`Pends`, `Fair`), so that is so where more is known of whoever is asked (`Watching`, `Watches`): a
+-- node that stops before the line takes a Prepare then, by the lines of its step (`Stops`), in each step of a node (`Stepped`) and each
+-- event (`Worlds`). It is at one that may be a store of it, as whoever loads asks (`Stores`, and of what roots keep and plans have
+-- `Lists`), and of an action that has changed it (`Changing`), and whoever answers says what the table has (`Telling`). Event by event so
+-- it is in whole runs (`Running`), and the first conflicts of tables and of nodes are the same at each moment (`Agreeing`).
 --
 -- A call ends at its coordinator by the answer that it takes, or given up (`Ending`). There the action waits for what was asked
 -- last, and the answer was made in its span (`Taking`), under its path (`Paths`), where the journal's row finds it (`Spans`, `Rows`); what
@@ -22,8 +21,6 @@ pub mod Inside
 pub mod Holders
 pub mod Telling
 pub mod Differing
-pub mod Pending
-pub mod Asked
 pub mod Pends
 pub mod Fair
 pub mod Stops

@@ -1,7 +1,7 @@
 // Rows of causes: lines of the world, and what nodes do.
 ghost use Rattle.arj_law_cause.specs.kinds.Kinds.{is_abort_done, is_armed, is_bare_abort, is_changed_abort, is_commit_done, is_committed, is_copy_shown, is_denial, is_dropped, is_entry_shown, is_excluded, is_found, is_got, is_granted_object, is_granted_entry, is_halted, is_limit, is_listed_abort, is_lost_commit, is_met_abort, is_node_given_up, is_old_abort, is_opening, is_plain_refusal, is_prepared, is_quiet, is_sent, is_told, is_up, is_void};
 ghost use Rattle.arj_law_cause.specs.kinds.Rows.{RowHolds, RowHoldsWhere, TestHolds};
-ghost use Rattle.arj_law_cause.specs.kinds.Tests.{is_changed_so, is_committed_so};
+ghost use Rattle.arj_law_cause.specs.kinds.Tests.{is_changed_so};
 
 /// In every run in form, wherever it begins and wherever disks stop, each line of a frame has its cause by the events and the lines before
 /// it, row by row: a frame that is sent has the next number and goes from a node that is up, or from nobody where the script hands over
@@ -139,10 +139,10 @@ pub fn locks_on_entries_are_free()
 
 /// In every such run a nested action commits in the event that commits it, and any other action while its commit is under way by the lines
 /// before; then each store that is listed behind the line, of each object that a call of it wrote that survives, has since the commit was
-/// called prepared what the action wrote, or stopped where the action's node may have asked it for that by then. It does nothing when it
-/// runs.
+/// called prepared what the action wrote, or stopped, in no crash, while it took a Prepare from the action's node, or as that node itself. It
+/// does nothing when it runs.
 pub fn commits_are_called()
-    ensures committed { TestHolds is_committed_so is_committed }
+    ensures committed { RowHolds is_committed }
 {}
 
 /// In every such run a store is excluded by a commit that is under way by the lines before, of a top of which a write of the object, or an

@@ -188,7 +188,7 @@ module _ (A : List AskedOf) where
       ∙ ap (λ ls. fold A n u ls (fold A n u (before ++ x ∷ []) now xs) ys) (append_assoc before (x ∷ []) xs)
 
   -- by the place of the call
-  pends_at : (ls ms : List Line) (n : ℕ) (u : Uid) (m : Placed (List Act)) → called_at ls u ≡ Some m →
+  pub pends_at : (ls ms : List Line) (n : ℕ) (u : Uid) (m : Placed (List Act)) → called_at ls u ≡ Some m →
       holds_in (λ (z : Placed (List Act)). fold A n u (take z.at (ls ++ ms)) false (drop z.at (ls ++ ms))) (called_at (ls ++ ms) u)
       ≡ fold A n u ls (fold A n u (take m.at ls) false (drop m.at ls)) ms
   pends_at ls ms n u m is =

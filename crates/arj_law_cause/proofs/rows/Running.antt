@@ -2,10 +2,10 @@
 use Rattle.arj_law_parts.proofs.Words
 use Words.{◌≡◌, ◌≤◌, ◌∙◌, ◌==◌, ◌+◌, ◌++◌, ℕ, Bool, true, false, if◌then◌else◌, List, [], ◌∷◌, length, Option, Some, None, refl, sym, ap}
 use Words.{subst, ⊤, arith, append-nil, append_assoc, map-append, Start, Body, Event, Header, Line}
-use Words.{asked_by, handle_ask, response, Node, World, Arm, Move, counted, first_reason, giving, happens, is_serial, lacks_labels}
+use Words.{asked_by, handle_ask, response, Node, World, Arm, Move, counted, first_reason, giving, happens, lacks_labels}
 use Words.{limited, moved, no_labels}
-use Words.{numbered, reasons, run_event, run_unless, see, Seen, all_moved, world_from, with_coord, again_all, begin_action, parent_of}
-use Words.{parts_in, restart_outs, tick_outs, acts as does, IsFormed}
+use Words.{numbered, reasons, run_event, run_unless, see, Seen, all_moved, world_from}
+use Words.{IsFormed}
 use Words.{actor, ◌&&◌, inr, Post}
 use Words.body
 use Rattle.arj_law_parts.proofs.Terms.{Asked, says}
@@ -16,12 +16,12 @@ use Rattle.arj_law_lock_view.proofs.Terms.{same_number}
 use Rattle.arj_law_lock_view.proofs.moments.Answers.{Known, answers_step, first_made, known_wide, made_closes, made_later, made_opens}
 use Rattle.arj_law_lock_view.specs.moments.Made.{AnswersAreMade, Tells, lines_behind}
 use Rattle.arj_law_parts.proofs.moves.{Events.closes_at, Events.happened, Events.opens_at, Events.same_run, Firsts.first_stands}
-use Rattle.arj_law_parts.proofs.moves.{Happens.Wide, Happens.arms_hold, Happens.wide_kept, Happens.wide_steps, Together.with_both}
+use Rattle.arj_law_parts.proofs.moves.{Happens.Wide, Happens.arms_hold, Happens.wide_kept, Happens.wide_steps}
 use Rattle.arj_law_parts.proofs.moves.Worlds.{says_hold}
 use Rattle.arj_law_parts.specs.moves.Moments as Moments
-use Rattle.arj_law_parts.specs.moves.Moments.{History, Moment, asks_now, come, given, no_history, said}
+use Rattle.arj_law_parts.specs.moves.Moments.{History, Moment, come, no_history, said}
 use Rattle.arj_law_parts.specs.moves.Seen as seen
-use Rattle.arj_law_parts.specs.moves.With.{Closes, HoldsAt, HoldsWith, KeepsAll, KeepsSteps, Opens, UpWith, Wrote, asked_of_node, look}
+use Rattle.arj_law_parts.specs.moves.With.{Closes, HoldsAt, HoldsWith, KeepsAll, KeepsSteps, Opens, Wrote, asked_of_node, look}
 use Rattle.arj_law_parts.specs.moves.With.{past_event}
 use Rattle.arj_law_parts.specs.moves.With.{past_moves, past_unless, written}
 use Rattle.arj_law_parts.specs.steps.Writes as writes
@@ -32,6 +32,7 @@ use Rattle.arj_law_cause.proofs.confirm.Reached.{Reached, reached_kept}
 use Rattle.arj_law_cause.proofs.rows.Changing.{doubt_changed, prepare_changed}
 use Rattle.arj_law_cause.proofs.rows.{Inside.inside_step, Telling.served_says, Telling.silent_front, Telling.table_then}
 use Rattle.arj_law_cause.proofs.waits.lost.Bound.{all_both}
+pub use Rattle.arj_law_cause.proofs.waits.lost.Bound.{steps_both}
 use Rattle.arj_law_cause.proofs.rows.Watching as pending
 use Rattle.arj_law_cause.proofs.rows.Watching.{Watched, right_asked, watched_steps}
 use Rattle.arj_law_cause.proofs.rows.Pends.{pends_are}
@@ -43,34 +44,6 @@ use Rattle.arj_law_promise.proofs.Terms.{IsAtStarts, KeepsAsked, asked_both, kee
 use Rattle.arj_law_parts.proofs.moves.Flat.{post}
 use Rattle.arj_model.specs.CausePends.{may_store, pends}
 use Rattle.arj_law_cause.specs.rows.{Early.IsEarly, Runs.RunsMeetRows, Says.has_changed, Says.says_so, Tables.Inside, Tables.Tables}
-
--- ---- two relations
-
-pub steps_both : (hd : Header) (P Q : Moment → Type 0) → KeepsSteps hd P → KeepsSteps hd Q → KeepsSteps hd (λ M. P M × Q M)
-steps_both hd P Q p q = record {
-  quiet = λ bs M plain h. (p.quiet bs M plain h.0, q.quiet bs M plain h.1);
-  junk = λ n M fit h. (p.junk n M fit h.0, q.junk n M fit h.1);
-  stop = λ k d live M h. (p.stop k d live M h.0, q.stop k d live M h.1);
-  message = λ k d t v from m outs M h there meant may is. with_both P Q k outs (UpWith P k v) (UpWith Q k v) d M
-      (p.message k d t v from m outs M h.0 there meant may is) (q.message k d t v from m outs M h.1 there meant may is);
-  act = λ k d t i M is brings fresh asks free h. let did = does i d.intents t.coord in
-      with_both P Q k did.outs (UpWith P k (with_coord t did.part)) (UpWith Q k (with_coord t did.part)) d (asks_now i t.coord M)
-      (p.act k d t i M is brings fresh asks free h.0) (q.act k d t i M is brings fresh asks free h.1);
-  begin = λ k d t l how parent M brings fresh new gives none h. let did = begin_action l how parent (parent_of parent t.coord) t.coord in
-      with_both P Q k did.outs (UpWith P k (with_coord t did.part)) (UpWith Q k (with_coord t did.part)) d
-      (given l (record { node = k; serial = is_serial how }) M) (p.begin k d t l how parent M brings fresh new gives none h.0)
-      (q.begin k d t l how parent M brings fresh new gives none h.1);
-  tick = λ k d t M h. let r = again_all t.coord.doings t.coord in
-      with_both P Q k (tick_outs (record {
-        number = k;
-        disk = d;
-        live =
-            Some t;
-      }) t) (UpWith P k (with_coord t r.part)) (UpWith Q k (with_coord t r.part)) d M
-      (p.tick k d t M h.0) (q.tick k d t M h.1);
-  restart = λ k d M event first h. with_both P Q k (restart_outs hd k (d.inc + 1) d) (UpWith P k (parts_in k (d.inc + 1) d))
-      (UpWith Q k (parts_in k (d.inc + 1) d)) d M (p.restart k d M event first h.0) (q.restart k d M event first h.1);
-}
 
 -- ---- what is known between events
 
@@ -232,7 +205,7 @@ module _ (A : List AskedOf) (hd : Header) (P : Moment → Type 0) (I : List Line
       right,
       (
         (let o = h.holds in least (ap length (sym (o.lines over)))),
-        λ fits. ((λ q there x states is home. tt), λ j n u is m held. (let z = h.settled in z.pends j n u is held)),
+        λ fits. ((λ q there x states is home. tt), λ j n u is m held. (let z = h.settled in z.pends.0 j n u is held)),
       ),
     )
       where

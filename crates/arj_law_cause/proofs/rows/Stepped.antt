@@ -1,4 +1,5 @@
--- A step of a node in its world: what stores have prepared may be pending behind it, and frames with a Prepare have their lines.
+-- A step of a node in its world: what stores have prepared may be pending behind it, of each line by which an action commits it is known
+-- what was seen then, and frames with a Prepare have their lines.
 use Rattle.arj_law_parts.proofs.Words
 use Words.{◌≡◌, ◌≢◌, ◌⊎◌, ◌∙◌, ◌==◌, ◌&&◌, ◌||◌, ◌++◌, ◌+◌, ◌-◌, ◌≤◌, ◌<◌, ℕ, zero, suc, Bool, true, false, cond}
 use Words.{if◌then◌else◌, List, []}
@@ -8,7 +9,7 @@ use Words.{append_assoc, eqb-true, eq-eqb, list_all, and_parts, AllByRecursion, 
 use Words.{place_other}
 use Words.{all_both, AreAll, Body, Event, Frame, Header, Line, Message, Uid, Disk, Do, Effect}
 use Words.{Say}
-use Words.{Send, Stop, worked, is_prepared, Parts, Node, Input, Step, step, step_with}
+use Words.{Seen, Send, Stop, worked, is_prepared, Parts, Node, Input, Step, step, step_with}
 use Words.{refusal_at, World, Arm, armed, disarmed, bodies, count_works, cut, done_step}
 use Words.{frame_kind, frames_with, halted_at, halted_outs, most_frames, new_frame, numbered, sends, sent_line, Post}
 use Words.body
@@ -21,7 +22,7 @@ use Shapes.{Shape, IsCrash, IsGot, IsNothing, IsPlain, IsRefusal, IsRestart, IsU
 use Rattle.arj_law_parts.proofs.steps.Still.{Still, is_still, says_still}
 use Rattle.arj_law_parts.specs.moves.Keeps.{Holds}
 use Rattle.arj_law_parts.specs.moves.Moments.{History, Moment, halted, with_node}
-use Rattle.arj_law_parts.specs.moves.Seen.{Within}
+use Rattle.arj_law_parts.specs.moves.Seen.{AreQuiet, Within}
 use Rattle.arj_law_parts.specs.moves.With.{KeepsSteps, look}
 use Rattle.arj_law_runs.proofs.follow.Walking.{frames_full, frames_none}
 use Rattle.arj_law_runs.proofs.kept.Walked.{same_number}
@@ -31,10 +32,13 @@ use Rattle.std.specs.Prelude.{drop}
 use Rattle.arj_model.specs.CauseSpans.{same_frame}
 use Rattle.arj_model.specs.Past.{Asked as AskedOf, nothing_yet}
 use Rattle.arj_protocol.specs.Words.{FrameKind}
-use Rattle.arj_law_cause.proofs.rows.Watching.{AreAsked, Right, Watched, watched_steps}
-use Rattle.arj_law_cause.proofs.rows.Pends.{NoDone, Pends, all_keep, pends_more}
+use Rattle.arj_law_cause.proofs.confirm.Reached.{Reached}
+use Rattle.arj_law_cause.proofs.rows.Watching.{AreAsked, Right}
+use Rattle.arj_law_cause.proofs.rows.Pends.{NoDone, Pends, all_keep, pends_more, quiet_keeps}
 use Rattle.arj_law_cause.proofs.rows.Stops.{are_own, drop_all, frame_more, is_calm, is_got, is_own}
 use Rattle.arj_law_cause.proofs.rows.Watches.{SaysSo, in_step}
+use Rattle.arj_law_cause.proofs.stores.Moments.{AreSaid, Kept, kept_steps, mute_more, quiet_all}
+use Rattle.arj_law_cause.proofs.stores.Shapes.{goes}
 
 -- ---- frames have lines
 
@@ -327,6 +331,22 @@ module _ (hd : Header) (k : ℕ) (n : Node) (number : n.number ≡ k) where
 abbrev pub AllPend : List AskedOf → List Node → List Line → Type 0
 AllPend A ns ls = (j : ℕ) (n : Node) (u : Uid) → at_place j ns ≡ Some n → is_prepared u (let d = n.disk in d.store) ≡ true → Pends A ls j u
 
+-- and of each of these lines by which an action commits what was seen then
+abbrev pub AllKnown : List AskedOf → Header → List Node → List Line → Type 0
+AllKnown A hd ns ls = AllPend A ns ls × AreSaid A hd [] ls
+
+-- what is known of a world by which nodes do what they do
+abbrev pub Knows : Header → Seen → Type 0
+Knows hd S = Right S × Reached hd S
+
+-- more lines, which end nothing
+pub quiet_known : (A : List AskedOf) (hd : Header) (ns : List Node) (ls : List Line) (e : ℕ) (bs : List Body) → AreQuiet bs →
+    AllKnown A hd ns ls → AllKnown A hd ns (ls ++ numbered e bs)
+quiet_known A hd ns ls e bs quiet known = (
+  λ j n u at held. pends_more A ls (numbered e bs) j u (quiet_keeps A e bs j u quiet) (known.0 j n u at held),
+  mute_more A hd ls e bs (quiet_all bs quiet) known.1,
+)
+
 -- a node among others
 seen_set : (k j : ℕ) (a n m : Node) (ns : List Node) → at_place k ns ≡ Some n → at_place j (set_place k a ns) ≡ Some m →
     cond (j == k) (Some a) (at_place j ns) ≡ Some m
@@ -352,91 +372,122 @@ since e w = record {
 -- a step of this node, which takes this frame, if any, in a world of which so much is known
 module _ (hd : Header) (A : List AskedOf) (w : World) (k : ℕ) (n : Node) (there : at_place k w.nodes ≡ Some n) (number : n.number ≡ k)
     (f from : Option ℕ) (alive : is_crash_at A k w.event ≡ false) where
-  keeps : KeepsSteps hd (Watched A (in_step A k w.event (length w.lines) f from alive))
-  keeps = watched_steps A (in_step A k w.event (length w.lines) f from alive) hd
+  keeps : KeepsSteps hd (Kept A hd k w.event (length w.lines) f from alive)
+  keeps = kept_steps A hd k w.event (length w.lines) f from alive
 
   abbrev Leaves : Step → Moment → Type 0
-  Leaves s M = Goes hd (Watched A (in_step A k w.event (length w.lines) f from alive))
-      (watched_steps A (in_step A k w.event (length w.lines) f from alive) hd) k n.disk s M
+  Leaves s M = Goes hd (Kept A hd k w.event (length w.lines) f from alive)
+      (kept_steps A hd k w.event (length w.lines) f from alive) k n.disk s M
 
   own_behind : (xs : List Line) → are_own k w.event f xs ≡ true → are_own k w.event f (drop (length w.lines) (w.lines ++ xs)) ≡ true
   own_behind xs own = ap (are_own k w.event f) (drop_all w.lines xs) ∙ own
 
   module _ (s : Step) (own : IsOwn k f s) (i : Input) (r : Option ℕ) (e : Event) (posts : List Post)
-      (goes : Leaves s (noted hd (Watched A (in_step A k w.event (length w.lines) f from alive))
-      (watched_steps A (in_step A k w.event (length w.lines) f from alive) hd) k i n.live r (look (since e w) posts w))) where
+      (goes : Leaves s (noted hd (Kept A hd k w.event (length w.lines) f from alive)
+      (kept_steps A hd k w.event (length w.lines) f from alive) k i n.live r (look (since e w) posts w))) where
     abbrev M : Moment
-    M = noted hd (Watched A (in_step A k w.event (length w.lines) f from alive))
-        (watched_steps A (in_step A k w.event (length w.lines) f from alive) hd) k i n.live r (look (since e w) posts w)
+    M = noted hd (Kept A hd k w.event (length w.lines) f from alive)
+        (kept_steps A hd k w.event (length w.lines) f from alive) k i n.live r (look (since e w) posts w)
 
     done_pends : AllPend A (set_place k s.after w.nodes) (w.lines ++ numbered w.event (bodies k (length w.frames) s.outs))
     done_pends j m u at held =
-        let b = flat_done (Watched A (in_step A k w.event (length w.lines) f from alive)) k s.outs
-        (λ c N. Watched A (in_step A k w.event (length w.lines) f from alive) (with_node k s.after N)) n.disk M (length w.frames) (inl refl)
+        let b = flat_done (Kept A hd k w.event (length w.lines) f from alive) k s.outs
+        (λ c N. Kept A hd k w.event (length w.lines) f from alive (with_node k s.after N)) n.disk M (length w.frames) (inl refl)
         goes.0 in
-        (b.3.1.1.1 (own_behind (numbered w.event (bodies k (length w.frames) s.outs)) (own.done w.event (length w.frames)))).1 j m u
+        (b.3.1.0.0.1.1 (own_behind (numbered w.event (bodies k (length w.frames) s.outs)) (own.done w.event (length w.frames)))).1 j m u
         (seen_set k j s.after n m w.nodes there at) tt held
+
+    done_said : AreSaid A hd [] (w.lines ++ numbered w.event (bodies k (length w.frames) s.outs))
+    done_said =
+        let b = flat_done (Kept A hd k w.event (length w.lines) f from alive) k s.outs
+        (λ c N. Kept A hd k w.event (length w.lines) f from alive (with_node k s.after N)) n.disk M (length w.frames) (inl refl) goes.0 in
+        b.3.1.1.1 (own_behind (numbered w.event (bodies k (length w.frames) s.outs)) (own.done w.event (length w.frames)))
+
+    done_known : AllKnown A hd (set_place k s.after w.nodes) (w.lines ++ numbered w.event (bodies k (length w.frames) s.outs))
+    done_known = (done_pends, done_said)
 
     stopped_pends : (c : ℕ) (how : Stop) → (let q = cut c how s.halting n.disk in
         AllPend A (set_place k (record n { disk = q.disk; live = None }) w.nodes)
         (w.lines ++ numbered w.event (bodies k (length w.frames) (halted_outs k q))))
     stopped_pends c how j m u at held =
         let q = cut c how s.halting n.disk in
-        let b = flat_cut (Watched A (in_step A k w.event (length w.lines) f from alive)) k s.halting
-        (λ c N. Watched A (in_step A k w.event (length w.lines) f from alive) (halted k c N)) n.disk M c how (length w.frames)
+        let b = flat_cut (Kept A hd k w.event (length w.lines) f from alive) k s.halting
+        (λ c N. Kept A hd k w.event (length w.lines) f from alive (halted k c N)) n.disk M c how (length w.frames)
         (λ d N h. h) (inl refl) goes.1 in
-        (b.3.1.1 (own_behind (numbered w.event (bodies k (length w.frames) (halted_outs k q)))
+        (b.3.0.0.1.1 (own_behind (numbered w.event (bodies k (length w.frames) (halted_outs k q)))
         (own.stopped w.event (length w.frames) c how n.disk))).1 j m u
         ((λ t. cond (j == k) (Some (record { number = sym number t; disk = q.disk; live = None })) (at_place j w.nodes))
         ∙ seen_set k j (record n { disk = q.disk; live = None }) n m w.nodes there at) tt held
 
-    pub with_pends : (o : Option Arm) → AllPend A (step_with k n s w o).nodes (step_with k n s w o).lines
-    with_pends None = done_pends
+    stopped_said : (c : ℕ) (how : Stop) → (let q = cut c how s.halting n.disk in
+        AreSaid A hd [] (w.lines ++ numbered w.event (bodies k (length w.frames) (halted_outs k q))))
+    stopped_said c how =
+        let q = cut c how s.halting n.disk in
+        let b = flat_cut (Kept A hd k w.event (length w.lines) f from alive) k s.halting
+        (λ c N. Kept A hd k w.event (length w.lines) f from alive (halted k c N)) n.disk M c how (length w.frames) (λ d N h. h) (inl refl)
+        goes.1 in
+        b.3.1.1 (own_behind (numbered w.event (bodies k (length w.frames) (halted_outs k q)))
+        (own.stopped w.event (length w.frames) c how n.disk))
+
+    pub with_pends : (o : Option Arm) → AllKnown A hd (step_with k n s w o).nodes (step_with k n s w o).lines
+    with_pends None = done_known
     with_pends (Some a) = by (nat_lt (count_works s.halting) a.works)
       where
         by : (b : Bool) → (let v = if b then done_step k s (armed k (record a { works = a.works - count_works s.halting }) w) else
-            halted_at k n (cut (a.works - 1) a.how s.halting n.disk) (disarmed k w) in AllPend A v.nodes v.lines)
-        by true = done_pends
-        by false = stopped_pends (a.works - 1) a.how
+            halted_at k n (cut (a.works - 1) a.how s.halting n.disk) (disarmed k w) in AllKnown A hd v.nodes v.lines)
+        by true = done_known
+        by false = (stopped_pends (a.works - 1) a.how, stopped_said (a.works - 1) a.how)
 
   -- whatever the node takes, where so much is known of what it may be asked
-  pub node_pends : (h : Holds hd Right w) → AllPend A w.nodes w.lines → SaysSo k f from w.lines →
+  pub node_pends : (h : Holds hd (Knows hd) w) → AllKnown A hd w.nodes w.lines → SaysSo k f from w.lines →
       (i : Input) (e : Event) (posts : List Post) →
       Within posts h.sent → AreAsked A (in_step A k w.event (length w.lines) f from alive) posts →
-      MayCome hd (Watched A (in_step A k w.event (length w.lines) f from alive))
-      (watched_steps A (in_step A k w.event (length w.lines) f from alive) hd) k i (look (since e w) posts w) →
+      MayCome hd (Kept A hd k w.event (length w.lines) f from alive)
+      (kept_steps A hd k w.event (length w.lines) f from alive) k i (look (since e w) posts w) →
       IsOwn k f (step hd n i) → (o : Option Arm) →
-      AllPend A (step_with k n (step hd n i) w o).nodes (step_with k n (step hd n i) w o).lines
-  node_pends h pends says i e posts within asked may own o =
+      AllKnown A hd (step_with k n (step hd n i) w o).nodes (step_with k n (step hd n i) w o).lines
+  node_pends h known says i e posts within asked may own o =
       with_pends (step hd n i) own i (refusal_at hd i n.live) e posts
-      (subst (λ x. Leaves (step hd x i) (noted hd (Watched A (in_step A k w.event (length w.lines) f from alive))
-      (watched_steps A (in_step A k w.event (length w.lines) f from alive) hd) k i n.live (refusal_at hd i n.live)
+      (subst (λ x. Leaves (step hd x i) (noted hd (Kept A hd k w.event (length w.lines) f from alive)
+      (kept_steps A hd k w.event (length w.lines) f from alive) k i n.live (refusal_at hd i n.live)
       (look (since e w) posts w)))
-      (node_is hd (Watched A (in_step A k w.event (length w.lines) f from alive)) keeps k n number)
-      (step_goes hd (Watched A (in_step A k w.event (length w.lines) f from alive)) keeps k i n.disk n.live (look (since e w) posts w) may
-      (sees_node hd (Watched A (in_step A k w.event (length w.lines) f from alive)) keeps k n (since e w) posts w there number begins))) o
+      (node_is hd (Kept A hd k w.event (length w.lines) f from alive) keeps k n number)
+      (step_goes hd (Kept A hd k w.event (length w.lines) f from alive) keeps k i n.disk n.live (look (since e w) posts w) may
+      (sees_node hd (Kept A hd k w.event (length w.lines) f from alive) keeps k n (since e w) posts w there number begins))) o
     where
       same : (m : ℕ) → m ≤ m
       same m = omega arith
 
-      begins : Watched A (in_step A k w.event (length w.lines) f from alive) (look (since e w) posts w)
+      begins : Kept A hd k w.event (length w.lines) f from alive (look (since e w) posts w)
       begins = (
-        (h.sent, within, h.holds),
-        ((refl, (same (length w.lines), says)), λ fits. (asked, λ j m u is matters held. pends j m u is held)),
+        (
+          (
+            (h.sent, within, h.holds.0),
+            ((refl, (same (length w.lines), says)), λ fits. (asked, λ j m u is matters held. known.0 j m u is held)),
+          ),
+          (h.sent, within, h.holds.1),
+        ),
+        (same (length w.lines), λ fits. known.1),
       )
 
 -- ---- what does no work
 
 -- lines that end nothing
 abbrev pub IsMild : Effect → Type 0
-IsMild (Say b) = NoDone b
+IsMild (Say b) = NoDone b × (goes b ≡ true)
 IsMild e = ⊥
 
 mild_lines : (k l : ℕ) (outs : List Effect) → AllByRecursion IsMild outs → AllByRecursion NoDone (bodies k l outs)
 mild_lines k l [] all = tt
-mild_lines k l (Say b ∷ es) all = (all.0, mild_lines k l es all.1)
+mild_lines k l (Say b ∷ es) all = (all.0.0, mild_lines k l es all.1)
 mild_lines k l (Send to m ∷ es) all = absurd all.0
 mild_lines k l (Do w ∷ es) all = absurd all.0
+
+mild_goes : (k l : ℕ) (outs : List Effect) → AllByRecursion IsMild outs → list_all goes (bodies k l outs) ≡ true
+mild_goes k l [] all = refl
+mild_goes k l (Say b ∷ es) all = λ i. all.0.1 i && mild_goes k l es all.1 i
+mild_goes k l (Send to m ∷ es) all = absurd all.0
+mild_goes k l (Do w ∷ es) all = absurd all.0
 
 mild_cut : (c : ℕ) (how : Stop) (es : List Effect) (d : Disk) → AllByRecursion IsMild es →
     ((cut c how es d).disk ≡ d) × AllByRecursion IsMild (cut c how es d).outs
@@ -447,10 +498,11 @@ mild_cut c how (Send to m ∷ es) d all = absurd all.0
 mild_cut c how (Do w ∷ es) d all = absurd all.0
 
 mild_halt : (k : ℕ) (es : List Effect) → AllByRecursion IsMild es → AllByRecursion IsMild (es ++ Say (body.Halted k) ∷ [])
-mild_halt k [] all = (tt, tt)
+mild_halt k [] all = ((tt, refl), tt)
 mild_halt k (e ∷ es) all = (all.0, mild_halt k es all.1)
 
-module _ (A : List AskedOf) (w : World) (k : ℕ) (n : Node) (there : at_place k w.nodes ≡ Some n) (pends : AllPend A w.nodes w.lines) where
+module _ (A : List AskedOf) (hd : Header) (w : World) (k : ℕ) (n : Node) (there : at_place k w.nodes ≡ Some n)
+    (known : AllKnown A hd w.nodes w.lines) where
   mild_node : (a : Node) (outs : List Effect) → a.disk ≡ n.disk → AllByRecursion IsMild outs →
       AllPend A (set_place k a w.nodes) (w.lines ++ numbered w.event (bodies k (length w.frames) outs))
   mild_node a outs disk all j m u at held = pends_more A w.lines (numbered w.event (bodies k (length w.frames) outs)) j u
@@ -459,21 +511,28 @@ module _ (A : List AskedOf) (w : World) (k : ℕ) (n : Node) (there : at_place k
     where
       by : (b : Bool) → (j == k) ≡ b → cond b (Some a) (at_place j w.nodes) ≡ Some m → Pends A w.lines j u
       by true e is = let same : a ≡ m = (let z : Some a ≡ Some m = is in cc z) in
-          pends j n u (ap (λ i. at_place i w.nodes) (eqb-true j k e) ∙ there)
+          known.0 j n u (ap (λ i. at_place i w.nodes) (eqb-true j k e) ∙ there)
           (ap (λ d. is_prepared u d.store) (sym disk) ∙ (ap (λ (x : Node). is_prepared u (let d = x.disk in d.store)) same ∙ held))
-      by false e is = pends j m u is held
+      by false e is = known.0 j m u is held
+
+  mild_known : (a : Node) (outs : List Effect) → a.disk ≡ n.disk → AllByRecursion IsMild outs →
+      AllKnown A hd (set_place k a w.nodes) (w.lines ++ numbered w.event (bodies k (length w.frames) outs))
+  mild_known a outs disk all = (
+    mild_node a outs disk all,
+    mute_more A hd w.lines w.event (bodies k (length w.frames) outs) (mild_goes k (length w.frames) outs all) known.1,
+  )
 
   -- a step without works
   pub mild_pends : (s : Step) → (let a = s.after in a.disk) ≡ n.disk → AllByRecursion IsMild s.outs → AllByRecursion IsMild s.halting →
-      (o : Option Arm) → AllPend A (step_with k n s w o).nodes (step_with k n s w o).lines
-  mild_pends s disk outs halting None = mild_node s.after s.outs disk outs
+      (o : Option Arm) → AllKnown A hd (step_with k n s w o).nodes (step_with k n s w o).lines
+  mild_pends s disk outs halting None = mild_known s.after s.outs disk outs
   mild_pends s disk outs halting (Some a) = by (nat_lt (count_works s.halting) a.works)
     where
       by : (b : Bool) → (let v = if b then done_step k s (armed k (record a { works = a.works - count_works s.halting }) w) else
-          halted_at k n (cut (a.works - 1) a.how s.halting n.disk) (disarmed k w) in AllPend A v.nodes v.lines)
-      by true = mild_node s.after s.outs disk outs
+          halted_at k n (cut (a.works - 1) a.how s.halting n.disk) (disarmed k w) in AllKnown A hd v.nodes v.lines)
+      by true = mild_known s.after s.outs disk outs
       by false = let q = cut (a.works - 1) a.how s.halting n.disk in let r = mild_cut (a.works - 1) a.how s.halting n.disk halting in
-          mild_node (record n { disk = q.disk; live = None }) (halted_outs k q) r.0 (mild_halt k q.outs r.1)
+          mild_known (record n { disk = q.disk; live = None }) (halted_outs k q) r.0 (mild_halt k q.outs r.1)
 
 -- ---- frames and events behind a step
 

@@ -60,6 +60,11 @@ says_more k f None ls ms h = tt
 says_more k None (Some i) ls ms h = absurd h
 says_more k (Some j) (Some i) ls ms h = frame_more (is_prepare i k) j ls ms h
 
+-- lines of the node's step are so without the last ones
+pub may_front : (k e n : ℕ) (f : Option ℕ) (ls ms : List Line) → n ≤ length ls → are_own k e f (drop n (ls ++ ms)) ≡ true →
+    are_own k e f (drop n ls) ≡ true
+may_front k e n f ls ms few m = own_less k e f (drop n ls) ms (sym (ap (are_own k e f) (drop_on n ls ms few)) ∙ m)
+
 -- Node k takes this frame in this event, in which it doesn't crash, and so many lines come before its own. It is asked to prepare something
 -- by itself, or from where the Prepare comes.
 module _ (A : List AskedOf) (k e n : ℕ) (f from : Option ℕ) (alive : is_crash_at A k e ≡ false) where
@@ -106,7 +111,7 @@ module _ (A : List AskedOf) (k e n : ℕ) (f from : Option ℕ) (alive : is_cras
       h.0,
       ((let long = length-append ls ms in let few = h.1.0 in omega (arith, few, long)), says_more k f from ls ms h.1.1),
     );
-    may_less = λ r i ls ms h m. own_less k e f (drop n ls) ms (behind r i ls ms h m);
+    may_less = λ r i ls ms h m. may_front k e n f ls ms h.1.0 m;
     matter_less = λ r ls ms m h. tt;
     ups = λ r ls m up. tt;
     anew = λ r ls m same. tt;

@@ -1,4 +1,5 @@
--- Event by event: what stores have prepared may be pending, of nodes that are up and of those that are down.
+-- Event by event: what stores have prepared may be pending, of nodes that are up and of those that are down; and of each line by which an
+-- action commits it is known what was seen then.
 use Rattle.arj_law_parts.proofs.Words
 use Words.{◌⊎◌, ⊎_elim, arith, Label, step_with, ◌≡◌, ◌∙◌, ◌&&◌, ◌||◌, ◌++◌, ◌+◌, not, ℕ, zero, suc, Bool, true, false, cond}
 use Words.{if◌then◌else◌, List, [], ◌∷◌, Option, Some, None}
@@ -31,15 +32,16 @@ use Rattle.arj_law_parts.specs.moves.Seen.{AreQuiet, In}
 use Rattle.arj_law_parts.specs.moves.With.{look}
 use Rattle.arj_law_runs.proofs.follow.Frames.{same_reasons}
 use Rattle.arj_law_promise.proofs.settling.{Rights.right_keep}
+use Rattle.arj_law_promise.proofs.Terms.{asked_both}
 use Rattle.arj_protocol.specs.World as world
 use Rattle.arj_model.specs.CausePends.{frame_is, is_crash, is_crash_at, is_prepare}
 use Rattle.arj_model.specs.CauseSpans.{same_frame}
 use Rattle.arj_model.specs.Past.{Asked as AskedOf}
-use Rattle.arj_law_cause.proofs.rows.Watching.{Right, Watched, right_asked, watched_steps}
-use Rattle.arj_law_cause.proofs.rows.Pends.{Pends, pends_more, quiet_keeps}
+use Rattle.arj_law_cause.proofs.confirm.Reached.{Reached, reached_kept}
+use Rattle.arj_law_cause.proofs.rows.Watching.{Right, right_asked}
 use Rattle.arj_law_cause.proofs.rows.Stepped
-use Stepped.{AllPend, Told, frame_own, mild_pends, node_pends, plain_own, told_more, told_set, with_event, with_told}
-use Rattle.arj_law_cause.proofs.rows.Watches.{in_step}
+use Stepped.{AllKnown, Knows, Told, frame_own, mild_pends, node_pends, plain_own, quiet_known, told_more, told_set, with_event, with_told}
+use Rattle.arj_law_cause.proofs.stores.Moments.{Kept, kept_steps}
 
 -- a request to prepare something goes in a Prepare
 pub prepare_kind : (m : Message) (h : Head) (states : List ObjectState) → asks m ≡ Some (h, ask.Prepare states) →
@@ -69,16 +71,17 @@ Rest fuel w o = elim o [ None ↦ w | Some k ↦ settle_for fuel (deliver k w) ]
 
 module _ (hd : Header) (A : List AskedOf) where
   abbrev pub Known : World → Type 0
-  Known w = Holds hd Right w
+  Known w = Holds hd (Knows hd) w
 
-  -- Frames with a Prepare have their lines, what stores have prepared may be pending, and the event has this number.
+  -- Frames with a Prepare have their lines, what stores have prepared may be pending, of each line by which an action commits it is known
+  -- what was seen then, and the event has this number.
   pub record Stands (e : ℕ) (w : World) : Type 0 where
     pub told : Told w.frames w.lines
-    pub pends : AllPend A w.nodes w.lines
+    pub pends : AllKnown A hd w.nodes w.lines
     pub number : w.event ≡ e
 
-  right : KeepsAsked hd Right
-  right = right_asked hd
+  right : KeepsAsked hd (Knows hd)
+  right = asked_both hd Right (Reached hd) (right_asked hd) (reached_kept hd)
 
   -- ---- what nodes take
 
@@ -92,14 +95,14 @@ module _ (hd : Header) (A : List AskedOf) where
     -- no frame
     plain_stands : (k : ℕ) (i : Input) (w : World) (h : Known w) → Stands e w → is_frame i ≡ false → (i ≡ input.Crash → ⊥) →
         ((n : Node) (there : at_place k w.nodes ≡ Some n) (number : n.number ≡ k) → (o : Option Arm) →
-        AllPend A (step_with k n (step hd n i) w o).nodes (step_with k n (step hd n i) w o).lines) → Stands e (steps k i w)
+        AllKnown A hd (step_with k n (step hd n i) w o).nodes (step_with k n (step hd n i) w o).lines) → Stands e (steps k i w)
     plain_stands k i w h z other no_crash pends = by (at_place k w.nodes) refl
       where
         by : (o : Option Node) → at_place k w.nodes ≡ o → Stands e (step_node k i w o)
         by None is = z
         by (Some n) is = record {
           told = with_told k n (step w.header n i) w (at_number k w.arms) z.told;
-          pends = subst (λ x. AllPend A (step_with k n (step x n i) w (at_number k w.arms)).nodes
+          pends = subst (λ x. AllKnown A hd (step_with k n (step x n i) w (at_number k w.arms)).nodes
               (step_with k n (step x n i) w (at_number k w.arms)).lines) (sym h.stands.header)
               (pends n is (h.stands.numbers k n is) (at_number k w.arms));
           number = with_event k n (step w.header n i) w (at_number k w.arms) ∙ z.number;
@@ -108,8 +111,8 @@ module _ (hd : Header) (A : List AskedOf) where
     act_stands : (k : ℕ) (i : Input) (w : World) (h : Known w) (z : Stands e w) (v : Event) → is_frame i ≡ false → (i ≡ input.Crash → ⊥) →
         ((n : Node) (there : at_place k w.nodes ≡ Some n) (number : n.number ≡ k) →
         MayCome hd
-        (Watched A (in_step A k w.event (length w.lines) None None (not_crash w z k)))
-        (watched_steps A (in_step A k w.event (length w.lines) None None (not_crash w z k)) hd) k i
+        (Kept A hd k w.event (length w.lines) None None (not_crash w z k))
+        (kept_steps A hd k w.event (length w.lines) None None (not_crash w z k)) k i
         (look (Stepped.since v w) [] w)) → Stands e (steps k i w)
     act_stands k i w h z v other no_crash may = plain_stands k i w h z other no_crash (λ n there number o.
         node_pends hd A w k n there number None None (not_crash w z k) h z.pends tt i v [] (λ p in_none. absurd in_none)
@@ -132,7 +135,7 @@ module _ (hd : Header) (A : List AskedOf) where
             let i = input.Frame j f.from f.message in record {
               told = with_told f.to n (step v.header n i) v (at_number f.to v.arms)
                   (told_set j f (as_delivered f) w.frames w.lines at refl refl refl z.told);
-              pends = subst (λ x. AllPend A (step_with f.to n (step x n i) v (at_number f.to v.arms)).nodes
+              pends = subst (λ x. AllKnown A hd (step_with f.to n (step x n i) v (at_number f.to v.arms)).nodes
                   (step_with f.to n (step x n i) v (at_number f.to v.arms)).lines) (sym h.stands.header) pends;
               number = with_event f.to n (step v.header n i) v (at_number f.to v.arms) ∙ z.number;
             }
@@ -175,7 +178,7 @@ module _ (hd : Header) (A : List AskedOf) where
             sent_there m its = subst (λ (y : Option Message). IfSome y (λ x. In (post f.from f.to x) h.sent)) its
                 (all_placed (IsSent h.sent) j f w.frames h.stands.frames at)
 
-            pends : AllPend A (step_with f.to n (step hd n (input.Frame j f.from f.message)) v (at_number f.to v.arms)).nodes
+            pends : AllKnown A hd (step_with f.to n (step hd n (input.Frame j f.from f.message)) v (at_number f.to v.arms)).nodes
                 (step_with f.to n (step hd n (input.Frame j f.from f.message)) v (at_number f.to v.arms)).lines
             pends = by f.message refl
               where
@@ -185,7 +188,7 @@ module _ (hd : Header) (A : List AskedOf) where
                     (input.Frame j f.from y))) its own
 
                 some_kind : (m : Message) → f.message ≡ Some m → (b : Bool) → same_frame (frame_kind m) frame.Prepare ≡ b →
-                    AllPend A (step_with f.to n (step hd n (input.Frame j f.from (Some m))) v (at_number f.to v.arms)).nodes
+                    AllKnown A hd (step_with f.to n (step hd n (input.Frame j f.from (Some m))) v (at_number f.to v.arms)).nodes
                     (step_with f.to n (step hd n (input.Frame j f.from (Some m))) v (at_number f.to v.arms)).lines
                 some_kind m its true kind = node_pends hd A v f.to n is number (Some j) (Some f.from) alive_then marked z.pends
                     (z.told j f m at its kind) (input.Frame j f.from (Some m)) event.Settle (post f.from f.to m ∷ [])
@@ -207,7 +210,7 @@ module _ (hd : Header) (A : List AskedOf) where
                     (inl refl, refl) (nothing None (Some m) its) (at_number f.to v.arms)
 
                 by : (m : Option Message) → f.message ≡ m →
-                    AllPend A (step_with f.to n (step hd n (input.Frame j f.from m)) v (at_number f.to v.arms)).nodes
+                    AllKnown A hd (step_with f.to n (step hd n (input.Frame j f.from m)) v (at_number f.to v.arms)).nodes
                     (step_with f.to n (step hd n (input.Frame j f.from m)) v (at_number f.to v.arms)).lines
                 by None its = node_pends hd A v f.to n is number (Some j) None alive_then marked z.pends tt
                     (input.Frame j f.from None) event.Settle [] (λ p none. absurd none) (λ q none. absurd none) (tt, refl)
@@ -228,7 +231,7 @@ module _ (hd : Header) (A : List AskedOf) where
             Known (settle_for fuel (deliver j w)) × Stands e (settle_for fuel (deliver j w))) →
             Known (Rest fuel w o) × Stands e (Rest fuel w o)
         by None ih = (h, z)
-        by (Some j) ih = ih j (deliver_holds hd Right right j w h) (delivered_stands j w h z)
+        by (Some j) ih = ih j (deliver_holds hd (Knows hd) right j w h) (delivered_stands j w h z)
 
     tick_stands : (n : ℕ) (w : World) → Known w → Stands e w → Stands e (steps n input.Tick w)
     tick_stands n w h z = act_stands n input.Tick w h z event.Settle refl (λ no. cc no) (λ m there number. refl)
@@ -239,7 +242,7 @@ module _ (hd : Header) (A : List AskedOf) where
       where
         by : (b : Bool) → Known (cond b w (steps n input.Tick w)) × Stands e (cond b w (steps n input.Tick w))
         by true = (h, z)
-        by false = (steps_hold hd Right right n input.Tick w h tt, tick_stands n w h z)
+        by false = (steps_hold hd (Knows hd) right n input.Tick w h tt, tick_stands n w h z)
 
     shown_stand : (x : ℕ) (ns : List ℕ) (w : World) → Known w → Stands e w → Stands e (show_all x ns w)
     shown_stand x [] w h z = z
@@ -247,7 +250,7 @@ module _ (hd : Header) (A : List AskedOf) where
       where
         by : (b : Bool) → Known (cond b (steps n (input.Show x) w) w) × Stands e (cond b (steps n (input.Show x) w) w)
         by true = (
-          steps_hold hd Right right n (input.Show x) w h tt,
+          steps_hold hd (Knows hd) right n (input.Show x) w h tt,
           act_stands n (input.Show x) w h z event.Settle refl (λ no. cc no) (λ m there number. tt),
         )
         by false = (h, z)
@@ -259,9 +262,8 @@ module _ (hd : Header) (A : List AskedOf) where
   said_stands e bs w v nodes lines frames number quiet z = record {
     told = told_more v.frames v.lines (numbered v.event bs) (subst (λ fs. Told fs v.lines) (sym frames) (subst (Told w.frames)
         (sym lines) z.told));
-    pends = λ j n u at held. pends_more A v.lines (numbered v.event bs) j u (quiet_keeps A v.event bs j u quiet)
-        (subst (λ ls. Pends A ls j u) (sym lines)
-        (z.pends j n u (ap (λ ns. at_place j ns) (sym nodes) ∙ at) held));
+    pends = quiet_known A hd v.nodes v.lines v.event bs quiet
+        (subst (λ ns. AllKnown A hd ns v.lines) (sym nodes) (subst (AllKnown A hd w.nodes) (sym lines) z.pends));
     number = number ∙ z.number;
   }
 
@@ -294,8 +296,7 @@ module _ (hd : Header) (A : List AskedOf) where
       by (Some f) is = record {
         told = told_more (set_place k (as_lost f) w.frames) w.lines (numbered w.event (body.Dropped k ∷ []))
             (told_set k f (as_lost f) w.frames w.lines is refl refl refl z.told);
-        pends = λ j n u at held. pends_more A w.lines (numbered w.event (body.Dropped k ∷ [])) j u
-            (quiet_keeps A w.event (body.Dropped k ∷ []) j u refl) (z.pends j n u at held);
+        pends = quiet_known A hd w.nodes w.lines w.event (body.Dropped k ∷ []) refl z.pends;
         number = z.number;
       }
 
@@ -304,8 +305,7 @@ module _ (hd : Header) (A : List AskedOf) where
   junk_stands e n w true z = record {
     told = told_more (w.frames ++ new_frame 0 n None ∷ []) w.lines
         (numbered w.event (body.Sent (length w.frames + 1) 0 n frame.Junk ∷ [])) told;
-    pends = λ j m u at held. pends_more A w.lines (numbered w.event (body.Sent (length w.frames + 1) 0 n frame.Junk ∷ [])) j u
-        (quiet_keeps A w.event (body.Sent (length w.frames + 1) 0 n frame.Junk ∷ []) j u refl) (z.pends j m u at held);
+    pends = quiet_known A hd w.nodes w.lines w.event (body.Sent (length w.frames + 1) 0 n frame.Junk ∷ []) refl z.pends;
     number = z.number;
   }
     where
@@ -327,9 +327,9 @@ module _ (hd : Header) (A : List AskedOf) where
       by None is = z
       by (Some n) is = let q = mild n in record {
         told = with_told k n (step w.header n i) w (at_number k w.arms) z.told;
-        pends = subst (λ x. AllPend A (step_with k n (step x n i) w (at_number k w.arms)).nodes
+        pends = subst (λ x. AllKnown A hd (step_with k n (step x n i) w (at_number k w.arms)).nodes
             (step_with k n (step x n i) w (at_number k w.arms)).lines) (sym header)
-            (mild_pends A w k n is z.pends (step hd n i) q.0.0 q.0.1 q.1 (at_number k w.arms));
+            (mild_pends A hd w k n is z.pends (step hd n i) q.0.0 q.0.1 q.1 (at_number k w.arms));
         number = with_event k n (step w.header n i) w (at_number k w.arms) ∙ z.number;
       }
 
@@ -340,11 +340,11 @@ module _ (hd : Header) (A : List AskedOf) where
       up : (o : Option Parts) → (let s = step_of hd input.Crash n o in let a = s.after in
           ((a.disk ≡ n.disk) × AllByRecursion Stepped.IsMild s.outs) × AllByRecursion Stepped.IsMild s.halting)
       up None = ((refl, tt), tt)
-      up (Some t) = ((refl, (tt, tt)), (tt, tt))
+      up (Some t) = ((refl, ((tt, refl), tt)), ((tt, refl), tt))
 
       by : (r : Option ℕ) (o : Option Parts) → (let s = step_unless hd input.Crash n r in let a = s.after in
           ((a.disk ≡ n.disk) × AllByRecursion Stepped.IsMild s.outs) × AllByRecursion Stepped.IsMild s.halting)
-      by (Some c) o = ((refl, (tt, tt)), (tt, tt))
+      by (Some c) o = ((refl, ((tt, refl), tt)), ((tt, refl), tt))
       by None o = up n.live
 
   begin_mild : (l : Label) (how : Kind) (parent : Option Label) (n : Node) → (let s = step hd n (input.Begin l how parent) in
@@ -354,11 +354,11 @@ module _ (hd : Header) (A : List AskedOf) where
       up : (o : Option Parts) → (let s = step_of hd (input.Begin l how parent) n o in let a = s.after in
           ((a.disk ≡ n.disk) × AllByRecursion Stepped.IsMild s.outs) × AllByRecursion Stepped.IsMild s.halting)
       up None = ((refl, tt), tt)
-      up (Some t) = ((refl, (tt, tt)), (tt, tt))
+      up (Some t) = ((refl, ((tt, refl), tt)), ((tt, refl), tt))
 
       by : (r : Option ℕ) → (let s = step_unless hd (input.Begin l how parent) n r in let a = s.after in
           ((a.disk ≡ n.disk) × AllByRecursion Stepped.IsMild s.outs) × AllByRecursion Stepped.IsMild s.halting)
-      by (Some c) = ((refl, (tt, tt)), (tt, tt))
+      by (Some c) = ((refl, ((tt, refl), tt)), ((tt, refl), tt))
       by None = up n.live
 
   begun_stands : (e : ℕ) (g : Giving) (w : World) → Known w → Stands e w → Stands e (begins g w)
@@ -433,14 +433,14 @@ module _ (hd : Header) (A : List AskedOf) where
 
   -- What is known of a world.
   pub record Settled (w : World) : Type 0 where
-    pub known : Holds hd Right w
+    pub known : Holds hd (Knows hd) w
     pub told : Told w.frames w.lines
-    pub pends : AllPend A w.nodes w.lines
+    pub pends : AllKnown A hd w.nodes w.lines
 
-  settled_so : (e : ℕ) (w : World) → Holds hd Right w → Stands e w → Settled w
+  settled_so : (e : ℕ) (w : World) → Holds hd (Knows hd) w → Stands e w → Settled w
   settled_so e w h z = record { known = h; told = z.told; pends = z.pends }
 
-  counted_known : (w : World) → Holds hd Right w → Holds hd Right (counted w)
+  counted_known : (w : World) → Holds hd (Knows hd) w → Holds hd (Knows hd) (counted w)
   counted_known w h = record {
     sent = h.sent;
     stands = record {
@@ -456,15 +456,15 @@ module _ (hd : Header) (A : List AskedOf) where
 
   pub event_settles : (v : Asked) (w : World) → (w.over ≡ false → Fits (w.event + 1) v.event) → Settled w → Settled (run_event v w)
   event_settles v w fits z = record {
-    known = event_asked hd Right right v w z.known;
+    known = event_asked hd (Knows hd) right v w z.known;
     told = (let s = stands in s.0);
     pends = (let s = stands in s.1);
   }
     where
       Goal : World → Type 0
-      Goal x = Told x.frames x.lines × AllPend A x.nodes x.lines
+      Goal x = Told x.frames x.lines × AllKnown A hd x.nodes x.lines
 
-      goal_of : (e : ℕ) (x : World) → Stands e x → Told x.frames x.lines × AllPend A x.nodes x.lines
+      goal_of : (e : ℕ) (x : World) → Stands e x → Told x.frames x.lines × AllKnown A hd x.nodes x.lines
       goal_of e x s = (s.told, s.pends)
 
       begins_at : Stands (w.event + 1) (counted w)
@@ -478,8 +478,7 @@ module _ (hd : Header) (A : List AskedOf) where
           by : (b : Bool) → Goal (if b then no_labels w else limited (happens v.event v.arm (counted w)))
           by true = (
             told_more w.frames w.lines (numbered w.event (body.Limit which.Labels ∷ [])) z.told,
-            λ j n u at held. pends_more A w.lines (numbered w.event (body.Limit which.Labels ∷ [])) j u
-                (quiet_keeps A w.event (body.Limit which.Labels ∷ []) j u refl) (z.pends j n u at held),
+            quiet_known A hd w.nodes w.lines w.event (body.Limit which.Labels ∷ []) refl z.pends,
           )
           by false = goal_of (w.event + 1) (limited (happens v.event v.arm (counted w)))
               (limited_stands (w.event + 1) (happens v.event v.arm (counted w))
@@ -494,13 +493,16 @@ module _ (hd : Header) (A : List AskedOf) where
           by false on = run on (first_reason (reasons v.event w)) refl
 
   pub armed_settles : (arms : List (ℕ × Arm)) (w : World) → Settled w → Settled (record w { arms = arms })
-  armed_settles arms w z = record { known = arms_hold hd Right arms w z.known; told = z.told; pends = z.pends }
+  armed_settles arms w z = record { known = arms_hold hd (Knows hd) arms w z.known; told = z.told; pends = z.pends }
 
   pub first_settles : (st : Start) → IsFormed hd st → Settled (world_from hd st)
   first_settles st formed = record {
-    known = first_asked hd st Right formed right;
+    known = first_asked hd st (Knows hd) formed right;
     told = λ j f m at is kind. none j at;
-    pends = λ j n u at held. (let k = right_keep hd in let r = k.first st formed in let a = r.1.held u j (n, at, held) in absurd a.1);
+    pends = (
+      λ j n u at held. (let k = right_keep hd in let r = k.first st formed in let a = r.1.held u j (n, at, held) in absurd a.1),
+      tt,
+    );
   }
     where
       none : {B : Type 0} (j : ℕ) {f : Frame} → at_place j [] ≡ Some f → B

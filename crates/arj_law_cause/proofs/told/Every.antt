@@ -45,7 +45,7 @@ use Rattle.arj_law_cause.specs.kinds.Kinds.{is_granted_entry, is_granted_object,
 use Rattle.arj_law_cause.specs.kinds.Kinds.{is_lost_commit, is_met_abort, is_node_given_up, is_old_abort, is_opening, is_prepared, is_quiet}
 use Rattle.arj_law_cause.specs.kinds.Kinds.{is_sent, is_told, is_up, is_void}
 use Rattle.arj_law_cause.specs.kinds.Rows.{row, tested}
-use Rattle.arj_law_cause.specs.kinds.Tests.{is_changed_so, is_committed_so}
+use Rattle.arj_law_cause.specs.kinds.Tests.{is_changed_so}
 use Rattle.arj_law_cause.specs.rows.Lines.{answer_fits}
 use Rattle.arj_law_cause.specs.told.Lines.{TellsWhy, is_told_why}
 
@@ -110,7 +110,7 @@ abbrev others : List Test
 others =
     answer_fits
     ∷ row (λ h. is_opening)
-    ∷ tested is_committed_so (λ h. is_committed)
+    ∷ row (λ h. is_committed)
     ∷ row (λ h. is_lost_commit)
     ∷ row (λ h. is_listed_abort)
     ∷ row (λ h. is_bare_abort)
@@ -273,7 +273,7 @@ why h (body.Aborted l (cause.NoStores x)) is = (and_parts (is_told_why h (body.A
 why h (body.Aborted l (cause.Listed x n)) is = (and_parts (is_told_why h (body.Aborted l (cause.Listed x n))) true is).0
 why h (body.Conflict l u mode n) is = (and_parts (answer_fits h (body.Conflict l u mode n)) true is).0
 why h (body.Changed l n d) is = (and_parts (answer_fits h (body.Changed l n d)) true is).0
-why h (body.Committed l) is = (and_parts (is_committed_so h (body.Committed l)) true is).0
+why h (body.Committed l) is = (and_parts (is_told_why h (body.Committed l)) true is).0
 why h (body.Aborted l (cause.Changed n d)) is = (and_parts (is_changed_so h (body.Aborted l (cause.Changed n d))) true is).0
 why h (body.Aborted l (cause.Old n x v)) is = (and_parts (is_told_why h (body.Aborted l (cause.Old n x v))) true is).0
 why h (body.GaveUp l n) is = (and_parts (is_told_why h (body.GaveUp l n)) true is).0

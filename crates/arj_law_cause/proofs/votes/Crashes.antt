@@ -148,7 +148,7 @@ module _ (A B : List AskedOf) (fewer : (n k : ℕ) → is_crash_at B n k ≡ tru
   abbrev taking : ℕ → ℕ → List Line → ℕ → Bool
   taking home n ls k = (n == home) || holds_in (frame_is (is_prepare home n) ls) (last_got k None ls)
 
-  halts_more : (home n : ℕ) (ls : List Line) (k : ℕ) → halts_preparing A home n ls k ≡ true → halts_preparing B home n ls k ≡ true
+  pub halts_more : (home n : ℕ) (ls : List Line) (k : ℕ) → halts_preparing A home n ls k ≡ true → halts_preparing B home n ls k ≡ true
   halts_more home n ls k is = by (is_crash_at B n k) refl
     where
       both : (not (is_crash_at A n k) ≡ true) × (taking home n ls k ≡ true)

@@ -1,18 +1,17 @@
 -- What an answer says of the lines before the place where it was made.
-use Rattle.std.specs.Prelude.{⊤, ◌≡◌, ℕ, Bool, true, false, List, [], ◌∷◌, ◌++◌, ◌==◌, ◌&&◌, ◌||◌, not, drop, take}
+use Rattle.std.specs.Prelude.{⊤, ◌≡◌, ℕ, Bool, true, false, List, [], ◌∷◌, ◌&&◌, not}
 use Rattle.std.specs.List.{list_any}
 use Rattle.arj_base.specs.Uid.{entry, object, uid_eq}
 use Rattle.arj_class.specs.Table.{op_mode}
 use Rattle.arj_journal.specs.ScriptForm.{HeaderInForm}
 use Rattle.arj_model.specs.Actions.{Act, acts}
 use Rattle.arj_model.specs.CauseAnswers.{has_lock, meets}
-use Rattle.arj_model.specs.CausePends.{called_at, changes, is_prepare, may_store, pends, pends_step}
+use Rattle.arj_model.specs.CausePends.{changes, may_store, pends}
 use Rattle.arj_model.specs.CauseSpans.{act_by, holds_in}
 use Rattle.arj_model.specs.Past.{Asked as Accepted}
 use Rattle.arj_protocol.specs.Ask.{Reply, actor, top_of, top_path}
 use Rattle.arj_protocol.specs.Tree.{is_nested}
-use Rattle.arj_protocol.specs.Words.{Ask, Body, Head, Header, Line, Mode, Uid, uids_of}
-use Rattle.arj_protocol.specs.Words.body
+use Rattle.arj_protocol.specs.Words.{Ask, Head, Header, Line, Mode, Uid, uids_of}
 use Rattle.arj_protocol.specs.Words.ask
 use Rattle.arj_protocol.specs.Words.bound
 use Rattle.arj_protocol.specs.Words.invoked
@@ -31,26 +30,6 @@ entry_modes false = mode.Read ∷ mode.Write ∷ []
 -- an action with this Uid began, and no nested one
 abbrev pub has_upper : List Act → Uid → Bool
 has_upper acts u = list_any (λ (a : Act). uid_eq a.uid u && not (is_nested a.kind)) acts
-
--- a line sends a Prepare from one node to another
-abbrev pub sends_prepare : ℕ → ℕ → Body → Bool
-sends_prepare home n (body.Sent j from to carried) = is_prepare home n from to carried
-sends_prepare home n _ = false
-
--- by these lines home may have asked the node to prepare something: it is home, or such a frame was sent there
-abbrev pub may_prepare : ℕ → ℕ → List Line → Bool
-may_prepare home n lines = (n == home) || list_any (λ line. sends_prepare home n line.body) lines
-
--- whether a state of the action may be prepared at the node behind more lines than these, by whether it may behind these: a line says so,
--- or that the node stopped, which may have been asked by then, and none that the end is done
-abbrev pub may_pend : ℕ → Uid → List Line → Bool → List Line → Bool
-may_pend n u before on [] = on
-may_pend n u before on (line ∷ rest) =
-    may_pend n u (before ++ line ∷ []) (pends_step (may_prepare u.node n before) n u line.body on) rest
-
--- so it may since its commit was called
-abbrev pub may_be_pending : ℕ → Uid → List Line → Bool
-may_be_pending n u lines = holds_in (λ m. may_pend n u (take m.at lines) false (drop m.at lines)) (called_at lines u)
 
 -- the action changed the object: it has a surviving write or include of it
 abbrev pub has_changed : List Line → Uid → ℕ → Bool

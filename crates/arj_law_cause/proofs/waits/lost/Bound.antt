@@ -28,7 +28,7 @@ use Rattle.arj_law_cause.proofs.waits.waiting.Knowing.{Core, core_keep}
 
 -- ---- relations together
 
-steps_both : (hd : Header) (P Q : Moment → Type 0) → KeepsSteps hd P → KeepsSteps hd Q → KeepsSteps hd (λ M. P M × Q M)
+pub steps_both : (hd : Header) (P Q : Moment → Type 0) → KeepsSteps hd P → KeepsSteps hd Q → KeepsSteps hd (λ M. P M × Q M)
 steps_both hd P Q a b = record {
   quiet = λ bs M plain h. (a.quiet bs M plain h.0, b.quiet bs M plain h.1);
   junk = λ n M fit h. (a.junk n M fit h.0, b.junk n M fit h.1);
