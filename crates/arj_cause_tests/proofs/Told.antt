@@ -382,6 +382,24 @@ confirmed_binding :
     failing changed_fits (instead 50 (body.Aborted (l 84) (cause.Changed 1 (difference.Bind (b 1 1) (b 2 1)))) restarted_naming) ≡ 50 ∷ []
 confirmed_binding = refl
 
+-- the root had not entered, and the later incarnation comes first
+confirmed_unentered : failing changed_fits (instead 4 (body.Granted 1 (u 4 1 2) (u 0 1 1) Write) restarted_naming) ≡ 50 ∷ []
+confirmed_unentered = refl
+
+confirmed_backwards : failing changed_fits (instead 50 (body.Aborted (l 84) (cause.Changed 1 (difference.Inc 2 1))) restarted_naming) ≡ 50 ∷ []
+confirmed_backwards = refl
+
+-- a server had no copy in the earlier incarnation; and of two copies the newer one comes first, or never became active
+voted_inactive : failing changed_fits (without 6 lost_lock) ≡ 24 ∷ []
+voted_inactive = refl
+
+bound_backwards : failing changed_fits (instead 69 (body.Aborted (l 84) (cause.Changed 2 (difference.Bind (b 2 1) (b 1 1)))) aborted_changed_bind)
+    ≡ 69 ∷ []
+bound_backwards = refl
+
+bound_inactive : failing changed_fits (without 50 aborted_changed_bind) ≡ 68 ∷ []
+bound_inactive = refl
+
 -- by their own runs they are so
 voted_so : failing changed_fits lost_lock ≡ []
 voted_so = refl

@@ -4,6 +4,7 @@ pub mod Called
 pub mod Changed
 pub mod Changes
 pub mod Conflicts
+pub mod Differs
 pub mod Entries
 pub mod Free
 pub mod GivenUp
@@ -33,5 +34,8 @@ pub mod Rising
 pub mod Runs
 pub mod Says
 pub mod Spans
+pub mod Ups
+pub mod Using
 pub mod Versions
+pub mod Voting
 pub mod Works

@@ -112,8 +112,10 @@ pub fn giveups_have_causes()
 /// a state that a store refused as too late where the action changes the object, and the store answered its Prepare at a place of the span at
 /// which the object had the version that the store told, above zero, or a later one, by the committed tops that wrote it, counted from where
 /// the run began, and naming had come up again since the action's root first had a lock on the object's entry. It is aborted since something
-/// changed where a server voted so, or naming refused its Confirm so, at a place of the span; and an incarnation that the line names as the
-/// node's own is the one that the journal has there, and another one than the first that it names. It does nothing when it runs.
+/// changed where of an object of the header it is so: at a place of the span the node voted, or as naming answered the Confirm, in the later
+/// incarnation that the line names, and in the earlier one a copy was active there, or naming gave the action's root a lock on the entry; or a
+/// server voted behind the place where both copies had become active in its life, the older first. That the action or its unit uses the
+/// object isn't said. It does nothing when it runs.
 pub fn refused_commits_have_causes()
     ensures listed { RowHolds is_listed_abort }
     ensures bare { RowHolds is_bare_abort }

@@ -3,8 +3,8 @@ use Rattle.arj_law_parts.proofs.Words
 use Words.{⊤, ◌≡◌, ◌∙◌, ◌==◌, ◌||◌, ◌++◌, not, ℕ, Bool, true, false, if◌then◌else◌, List, [], ◌∷◌, Option, Some, None, refl, sym}
 use Words.{ap, subst, ⊎_elim, option_map, In, Ask, Binding, ConfirmedReply, End, Head, Header, Line, Message, ObjectState, Path}
 use Words.{Reply, Row, Start, Uid, VotedReply, What, actor, asked_by, asks, last_uid, response, top_of, Disk, Effect, Send, Served, reply}
-use Words.{void, Copy, Server, Naming, Handled, Parts, Took, Void, if_naming, sends_answer, serve, served, with_naming, with_server, Seen}
-use Words.{at_number, binding_eq, changed_copy, either, first_unbound, has_ended, is_over, is_on, is_prepared, is_listed, listed_entry}
+use Words.{void, Server, Naming, Handled, Parts, Took, Void, if_naming, sends_answer, serve, served, with_naming, with_server, Seen}
+use Words.{at_number, either, first_unbound, has_ended, is_over, is_on, is_prepared, is_listed, listed_entry}
 use Words.{other_inc, Grants, Marks, checked, confirm, confirm_entries, confirm_new, confirms, conflict_in, entries_after, first_of_each}
 use Words.{has_all, is_bare, is_there, lock_all, other_grant, prepared_by, refused_exclude, same_nodes, state_entry, wanted, Pair, Prep}
 use Words.{Ready, Already, Old, InDoubt, Did, prepare_answer}
@@ -20,7 +20,9 @@ use Rattle.arj_law_parts.proofs.moves.Happens.{Wide, keeps_asked}
 use Rattle.arj_law_parts.specs.moves.Moments.{Moment, up}
 use Rattle.arj_law_parts.specs.moves.Seen as seen
 use Rattle.arj_model.specs.Refusals.{incarnation}
-use Rattle.arj_law_cause.proofs.bindings.Counted.{IsCounted}
+use Rattle.arj_law_cause.proofs.bindings.Copies.{HasCopies}
+use Rattle.arj_law_cause.proofs.bindings.Counted.{IsCounted, IsGiven}
+use Rattle.arj_law_cause.proofs.bindings.Since.{AreLow}
 use Rattle.arj_law_cause.proofs.bindings.Said.{KnowsBindings, bindings_keep}
 use Rattle.arj_law_cause.proofs.confirm.{Called.AsksCalled, Called.BasedCalled, Called.called_keep, Called.is_called, Reached.Reached}
 use Rattle.arj_law_cause.proofs.confirm.{Reached.reached_has, Replies.either_cases, Replies.first_some}
@@ -29,44 +31,26 @@ use Rattle.arj_law_cause.proofs.rows.Telling.{init_is, init_of, outs_in, same_re
 
 -- ---- what is said
 
--- so much is so at this node: another incarnation than the one that was named
-abbrev pub ChangedAt : Start → ℕ → What → List Line → Type 0
-ChangedAt st n (what.Inc had now) before = (incarnation st before n ≡ now) × ((had == now) ≡ false)
-ChangedAt st n (what.Bind had now) before = ⊤
+-- A server found that something differs from what it was asked to vote for; so much is so of it by these lines: it has the copies that
+-- became active there, and is in its node's incarnation.
+pub record IsVoted (st : Start) (n i : ℕ) (ties : List (ℕ × Binding)) (w : What) (before : List Line) : Type 0 where
+  pub server : Server
+  pub given : IsGiven st before
+  pub low : AreLow st before
+  pub had : HasCopies n server st before
+  pub level : incarnation st before n ≡ server.inc
+  pub differs : either (other_inc i server.inc) (first_unbound ties server) ≡ Some w
 
 -- The commit was called, and so it is of a server's vote; naming names a grant of the Confirm, and its own incarnation.
 abbrev pub says_changed : Start → ℕ → Head → Ask → Reply → List Line → Type 0
-says_changed st n h (ask.Vote i ties ends) (Reply.Voted (voted.Changed w)) before = is_called before (actor h.path) × ChangedAt st n w before
+says_changed st n h (ask.Vote i ties ends) (Reply.Voted (voted.Changed w)) before =
+    is_called before (actor h.path) × IsVoted st n i ties w before
 says_changed st n h (ask.Confirm grants excluded included) (Reply.Confirmed (confirmed.Changed w)) before =
     is_called before (actor h.path) × ((g : ℕ × ℕ) × In g grants × (w ≡ what.Inc g.1 (incarnation st before 1))
     × ((g.1 == incarnation st before 1) ≡ false))
 says_changed st n h a r before = ⊤
 
 -- ---- a server's vote
-
-changed_at : (st : Start) (n : ℕ) (s : Server) (ls : List Line) → incarnation st ls n ≡ s.inc → (i : ℕ) (ties : List (ℕ × Binding))
-    (w : What) →
-    either (other_inc i s.inc) (first_unbound ties s) ≡ Some w → ChangedAt st n w ls
-changed_at st n s ls level i ties w = by (i == s.inc) refl
-  where
-    unbound_so : (ts : List (ℕ × Binding)) → first_unbound ts s ≡ Some w → ChangedAt st n w ls
-    unbound_so [] is = absurd (cc is)
-    unbound_so (z ∷ ts) is = one (unbound_so ts) (at_number z.0 s.objects) is
-      where
-        one : (first_unbound ts s ≡ Some w → ChangedAt st n w ls) → (o : Option Copy) →
-            either (changed_copy z.1 o) (first_unbound ts s) ≡ Some w → ChangedAt st n w ls
-        one ih None is = subst (λ q. ChangedAt st n q ls) (some_is is) tt
-        one ih (Some c) is = each (binding_eq z.1 c.binding) is
-          where
-            each : (b : Bool) → either (if b then None else Some (what.Bind z.1 c.binding)) (first_unbound ts s) ≡ Some w →
-                ChangedAt st n w ls
-            each true is = ih is
-            each false is = subst (λ q. ChangedAt st n q ls) (some_is is) tt
-
-    by : (b : Bool) → (i == s.inc) ≡ b → either (if b then None else Some (what.Inc i s.inc)) (first_unbound ties s) ≡ Some w →
-        ChangedAt st n w ls
-    by true on is = unbound_so ties is
-    by false off is = subst (λ q. ChangedAt st n q ls) (some_is is) (level, off)
 
 -- it is given before anything is done
 vote_changes : (n : ℕ) (p : Path) (i : ℕ) (ties : List (ℕ × Binding)) (ends : List (Uid × End)) (s : Server) (w : What) →
@@ -186,6 +170,16 @@ module _ (p : Path) (grants : Grants) (excluded included : Marks) (d : Pair) (n 
 
 -- ---- where they are served
 
+-- what is known of bindings there
+pub bindings_at : (hd : Header) (k : ℕ) (d : Disk) (t : Parts) (M : Moment) → Wide (Reached hd) (up k d t M) →
+    Wide KnowsBindings (up k d t M)
+bindings_at hd k d t M known = (
+  known.0,
+  known.1,
+  reached_has hd KnowsBindings (keeps_asked hd KnowsBindings (bindings_keep hd))
+      (let N = up k d t M in seen.with_sent known.0 N.seen) known.2,
+)
+
 module _ (hd : Header) (st : Start) (k : ℕ) (d : Disk) (t v : Parts) (from : ℕ) (m : Message) (h : Head) (r : Reply) (front : List Effect)
     (M : Moment) (known : Wide (Reached hd) (up k d t M)) (starts : (let N = M.seen in N.start) ≡ st)
     (there : seen.In (record { from = from; to = k; message = m }) M.seen.sent) where
@@ -199,7 +193,7 @@ module _ (hd : Header) (st : Start) (k : ℕ) (d : Disk) (t v : Parts) (from : �
   Sent a = a ≡ Took v (front ++ Send from (response (asked_by h) r) ∷ [])
 
   bindings : Wide KnowsBindings (up k d t M)
-  bindings = (known.0, known.1, reached_has hd KnowsBindings (keeps_asked hd KnowsBindings (bindings_keep hd)) Z known.2)
+  bindings = bindings_at hd k d t M known
 
   here : (let N = up k d t M in N.seen.nodes k) ≡ Some (record { number = k; disk = d; live = Some t })
   here = λ i. if same_number k i then Some (record { number = k; disk = d; live = Some t }) else M.seen.nodes k
@@ -228,10 +222,16 @@ module _ (hd : Header) (st : Start) (k : ℕ) (d : Disk) (t v : Parts) (from : �
       says (voted.Changed w) at same =
           let c = vote_changes k h.path i ties ends t.server w at in
           subst (λ fs. is_called (lines_behind M.past.number fs M.seen.lines) (actor h.path)
-          × ChangedAt st k w (lines_behind M.past.number fs M.seen.lines)) (sym c.1 ∙ same) (
+          × IsVoted st k i ties w (lines_behind M.past.number fs M.seen.lines)) (sym c.1 ∙ same) (
             called (ask.Vote i ties ends) asking,
-            subst (λ s. ChangedAt s k w M.seen.lines) starts (changed_at M.seen.start k t.server M.seen.lines
-                (level k d t v from m h r front M bindings there) i ties w c.0),
+            subst (λ s. IsVoted s k i ties w M.seen.lines) starts (record {
+              server = t.server;
+              given = bindings.2.0.1.1.0;
+              low = bindings.2.1.1.0;
+              had = bindings.2.1.1.1 k (record { number = k; disk = d; live = Some t }) t here refl;
+              level = level k d t v from m h r front M bindings there;
+              differs = c.0;
+            }),
           )
 
       by : (f : Option VotedReply) → (server.vote k h.path i ties ends t.server).reply ≡ f →

@@ -41,6 +41,8 @@ use Rattle.arj_law_cause.proofs.confirm.{Granted.had_begins, Granted.had_heard, 
 use Rattle.arj_law_cause.proofs.confirm.{Had.HadIn, Had.PlanSo, Had.had_in_more, Had.plan_more, Planned.plan_so, Reached.Reached}
 use Rattle.arj_law_cause.proofs.confirm.{Reached.reached_has, Says.confirms_so, Says.says_of}
 use Rattle.arj_law_cause.proofs.confirm.Placed as placed
+use Rattle.arj_journal.specs.ScriptForm.{HeaderInForm}
+use Rattle.arj_law_cause.proofs.rows.Machines.{kept_inc}
 use Rattle.arj_law_cause.proofs.rows.Taking.{bind_is}
 use Rattle.arj_law_cause.proofs.waits.waiting.Acting as acting
 
@@ -140,8 +142,8 @@ module _ (st : Start) where
 
   -- ---- one node
 
-  module _ (hd : Header) (k : ℕ) (d : Disk) (t : Parts) (M : Moment) (known : Wide (Reached hd) (up k d t M))
-      (made : AnswersAreMade (confirms_so hd st) (up k d t M)) (had : GrantsAreHad (up k d t M)) where
+  module _ (hd : Header) (form : HeaderInForm hd) (k : ℕ) (d : Disk) (t : Parts) (M : Moment) (known : Wide (Reached hd) (up k d t M))
+      (starts : (let N = M.seen in N.start) ≡ st) (made : AnswersAreMade (confirms_so hd st) (up k d t M)) (had : GrantsAreHad (up k d t M)) where
     abbrev Z : Seen
     Z = let N = up k d t M in seen.with_sent known.0 N.seen
 
@@ -277,8 +279,9 @@ module _ (st : Start) where
     -- ---- an input
 
     taken : (i : Input) → refusal_up hd i t.coord ≡ None → CameHad (HadIn st M.seen.lines) (PlanSo st M.seen.lines) (Takes i d.intents) t.coord
-    taken (input.Commit l) free = λ b named unnested unserial. plan_so hd st Z known.2 k mine t here refl
+    taken (input.Commit l) free = λ b named unnested unserial. plan_so hd st Z known.2 k mine t here refl starts
         (let o = own in o.roots) l b named free unnested unserial
+        (λ early found s i old is recorded. kept_inc hd form k d t M.seen known.0 known.2 early (actor b.path) b found s i old is recorded)
     taken (input.Begin l how parent) free = tt
     taken (input.Call l x o) free = tt
     taken (input.Include l x n) free = tt
@@ -307,8 +310,9 @@ module _ (st : Start) where
 
   -- ---- every handler
 
-  module _ (hd : Header) (G : Moment → Type 0) (steps : KeepsSteps hd G)
+  module _ (hd : Header) (form : HeaderInForm hd) (G : Moment → Type 0) (steps : KeepsSteps hd G)
       (known : (k : ℕ) (d : Disk) (t : Parts) (M : Moment) → G (up k d t M) → Wide (Reached hd) (up k d t M))
+      (starts : (k : ℕ) (d : Disk) (t : Parts) (M : Moment) → G (up k d t M) → (let N = M.seen in N.start) ≡ st)
       (made : (k : ℕ) (d : Disk) (t : Parts) (M : Moment) → G (up k d t M) → AnswersAreMade (confirms_so hd st) (up k d t M)) where
     pub had_steps : KeepsSteps hd (λ M. G M × GrantsAreHad M)
     had_steps = record {
@@ -326,18 +330,18 @@ module _ (st : Start) where
         put k d None (said (body.Halted k ∷ []) M) (off_said k (body.Halted k ∷ []) M (off_of k d live M h.1)) (λ t is. none_is is),
       );
       message = λ k d t v from m outs M h there meant may is. both k outs v d M (steps.message k d t v from m outs M h.0 there meant may is)
-          (message_walk hd k d t M (known k d t M h.0) (made k d t M h.0) h.1 v from m outs there is);
+          (message_walk hd form k d t M (known k d t M h.0) (starts k d t M h.0) (made k d t M h.0) h.1 v from m outs there is);
       act = λ k d t i M is brings first asks free h. let did = does i d.intents t.coord in
           both k did.outs (with_coord t did.part) d (asks_now i t.coord M) (steps.act k d t i M is brings first asks free h.0)
-          (act_walk hd k d t M (known k d t M h.0) (made k d t M h.0) h.1 i free);
+          (act_walk hd form k d t M (known k d t M h.0) (starts k d t M h.0) (made k d t M h.0) h.1 i free);
       begin = λ k d t l how parent M brings first new gives none h.
           let did = begin_action l how parent (parent_of parent t.coord) t.coord in
           both k did.outs (with_coord t did.part) d (given l (record { node = k; serial = is_serial how }) M)
           (steps.begin k d t l how parent M brings first new gives none h.0)
-          (begin_walk hd k d t M (known k d t M h.0) (made k d t M h.0) h.1 l how parent);
+          (begin_walk hd form k d t M (known k d t M h.0) (starts k d t M h.0) (made k d t M h.0) h.1 l how parent);
       tick = λ k d t M h. let r = again_all t.coord.doings t.coord in
           both k (tick_outs (record { number = k; disk = d; live = Some t }) t) (with_coord t r.part) d M (steps.tick k d t M h.0)
-          (tick_walk hd k d t M (known k d t M h.0) (made k d t M h.0) h.1);
+          (tick_walk hd form k d t M (known k d t M h.0) (starts k d t M h.0) (made k d t M h.0) h.1);
       restart = λ k d M event first h. both k (restart_outs hd k (d.inc + 1) d) (parts_in k (d.inc + 1) d) d M
           (steps.restart k d M event first h.0) (walk k (parts_in k (d.inc + 1) d) (restart_outs hd k (d.inc + 1) d) d M
           (off_of k d None M h.1) (had_new (HadIn st M.seen.lines) (PlanSo st M.seen.lines) k (d.inc + 1) d.intents));

@@ -11,6 +11,9 @@ use Rattle.arj_law_serial.proofs.Terms.{Act, AreDistinct, acts, acts_more, path_
 use Rattle.arj_model.specs.CauseAnswers.{has_lock}
 use Rattle.arj_model.specs.Refusals.{incarnation}
 use Rattle.arj_promise.specs.Starts.{next_inc}
+use Rattle.arj_law_cause.proofs.bindings.{Lines.IsLined, Since.IsActiveIn}
+use Rattle.arj_law_cause.proofs.confirm.Joined.{early_before}
+use Rattle.arj_law_cause.specs.rows.Early.{IsEarly}
 use Rattle.arj_law_cause.proofs.rows.Entered.{by_stays, distinct_before}
 use Rattle.arj_law_cause.proofs.rows.Holders.{any_later}
 
@@ -57,7 +60,7 @@ had_in_more st ls ms root top x g h = record {
 }
 
 -- What the plan of an action's commit uses of an object: at a place before the commit was called a top of the action's root had a lock on
--- its entry, in the incarnation that the plan names.
+-- its entry, in the incarnation that the plan names; and where it was called its copy was active at the server, in the incarnation that is named.
 pub record IsUsedSo (st : Start) (ls : List Line) (u : Uid) (w : Used) : Type 0 where
   pub first : List Line
   pub more : List Line
@@ -68,6 +71,8 @@ pub record IsUsedSo (st : Start) (ls : List Line) (u : Uid) (w : Used) : Type 0 
   pub there : has_act (acts ls) top ≡ true
   pub its : has_act (acts ls) u ≡ true
   pub root : AreDistinct (acts ls) → first_uid (uids (path_by (acts ls) top)) ≡ first_uid (uids (path_by (acts ls) u))
+  pub server : IsEarly ls → w.called ≡ true →
+      IsLined first w.x w.binding w.server × IsActiveIn st first w.server w.x w.binding w.inc
 
 -- so it is as long as few bindings were made
 abbrev pub PlanSo : Start → List Line → Uid → Used → Type 0
@@ -86,4 +91,5 @@ plan_more st ls ms u w so few =
       its = any_later (λ (a : Act). uid_eq a.uid u) ls ms h.its;
       root = λ distinct. ap (λ p. first_uid (uids p)) (path_still ls ms distinct h.top h.there) ∙ h.root (distinct_still ls ms distinct)
           ∙ ap (λ p. first_uid (uids p)) (sym (path_still ls ms distinct u h.its));
+      server = λ early. h.server (early_before ls ms early);
     }

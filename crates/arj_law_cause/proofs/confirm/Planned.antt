@@ -36,6 +36,14 @@ use Rattle.arj_law_serial.proofs.Terms.{AreDistinct, acts, any_in, path_by, uids
 use Rattle.arj_law_cause.proofs.confirm.{Granted.AreHad, Granted.IsHad, Granted.its_grants, Had.HadIn, Had.PlanSo}
 use Rattle.arj_law_cause.proofs.confirm.{Had.WasHad, Reached.Reached, Reached.reached_has}
 use Rattle.arj_law_cause.proofs.confirm.Placed as placed
+use Rattle.arj_law_cause.proofs.bindings.{Asking.AreAtSo, Asking.IsKeptSo, Asking.IsRootSo, Copies.active_by, Lines.IsLined, Said.KnowsBindings}
+use Rattle.arj_law_cause.proofs.bindings.{Said.bindings_keep, Since.IsActiveIn, Since.met_in}
+use Rattle.arj_law_cause.proofs.rows.Holders.{one_passes}
+use Rattle.arj_law_cause.specs.rows.Early.{IsEarly}
+use Rattle.arj_law_lock_view.specs.records.Coords.{IsRecorded}
+use Rattle.arj_law_parts.proofs.coordinator.Works.{its_root}
+use Rattle.arj_law_parts.proofs.parts.LivesNamed.{keyed_at}
+use Words.{Keeping, known_for, no_keeping, nothing_known, unwrap_or, used_with}
 
 -- ---- lists
 
@@ -58,7 +66,7 @@ in_with n x ns = by (number_set ns)
         each Greater is ih (inl it) = inr (inl it)
         each Greater is ih (inr i) = ⊎_elim {C = (n ≡ x) ⊎ list.In x (k ∷ ks)} (λ it. inl it) (λ j. inr (inr j)) (ih i)
 
-in_set : (x : ℕ) (ns : List ℕ) → list.In x (number_set ns) → list.In x ns
+pub in_set : (x : ℕ) (ns : List ℕ) → list.In x (number_set ns) → list.In x ns
 in_set x [] i = i
 in_set x (n ∷ ns) i = ⊎_elim {C = list.In x (n ∷ ns)} (λ it. inl it) (λ j. inr (in_set x ns j)) (in_with n x ns i)
 
@@ -67,7 +75,7 @@ in_both a [] ys i = inr i
 in_both a (x ∷ xs) ys (inl is) = inl (inl is)
 in_both a (x ∷ xs) ys (inr i) = ⊎_elim {C = list.In a (x ∷ xs) ⊎ list.In a ys} (λ l. inl (inr l)) (λ r. inr r) (in_both a xs ys i)
 
-kept_in : {A : Type 0} (p : A → Bool) (x : A) (xs : List A) → list.In x xs → p x ≡ true → list.In x (filter p xs)
+pub kept_in : {A : Type 0} (p : A → Bool) (x : A) (xs : List A) → list.In x xs → p x ≡ true → list.In x (filter p xs)
 kept_in p x [] i is = absurd i
 kept_in {A} p x (y ∷ ys) i is = by (p y) refl (kept_in p x ys) i
   where
@@ -94,7 +102,7 @@ least_among n (m ∷ ns) = by (nat_le n (least_of (m ∷ ns))) refl (least_among
     by true is ih = inl (sym (left n (least_of (m ∷ ns)) is))
     by false is ih = inr (subst (λ k. list.In k (m ∷ ns)) (sym (right n (least_of (m ∷ ns)) is)) ih)
 
-least_in : (ns : List ℕ) (n : ℕ) → list.In n ns → list.In (least_of ns) ns
+pub least_in : (ns : List ℕ) (n : ℕ) → list.In n ns → list.In (least_of ns) ns
 least_in [] n i = absurd i
 least_in (m ∷ ns) n i = least_among m ns
 
@@ -210,6 +218,18 @@ module _ (sent : List Post) (k : ℕ) (c : Coord) (place : Place sent k c) (gran
           either_last (uid_eq g.top (actor b.path)) (ap (λ t. is_kept_top t c && top_uses t x (root_at (root_of b.path) c) c) same
           ∙ (λ i. v.1 i && uses v.0 v.1 v.2 i))
 
+  -- a call that counts isn't spent
+  pub unspent : (s : Said) → list.In s (root_at (root_of b.path) c).said → counts (actor b.path) s.path c ≡ true → IsSpent c.tree s.path → ⊥
+  unspent s i on z = ⊎_elim
+      (surviving place.actions (paths_of place.actions) (begun_tree place.actions place.begun) sent k c place.good place.binds b found
+      opened s its z.0 z.1 z.2)
+      (retained place.actions (paths_of place.actions) (begun_tree place.actions place.begun) sent k c place.good place.binds b found
+      opened s its z.0 z.1 z.2)
+      (or_cases (survives (actor b.path) s.path c) (is_retained s.path c) on)
+    where
+      its : binds.IsSaid c.tree (root_of b.path).num (root_at (root_of b.path) c) s
+      its = let w = place.binds in w.said (root_of b.path) s i
+
   -- a call that counts
   said_counts : (s : Said) → list.In s (root_at (root_of b.path) c).said → counts (actor b.path) s.path c ≡ true → Counting s.x
   said_counts s i on = by (kept_of s.x (root_at (root_of b.path) c)) refl its.kept
@@ -312,10 +332,13 @@ module _ (sent : List Post) (k : ℕ) (c : Coord) (place : Place sent k c) (gran
 -- ---- by the journal
 
 module _ (hd : Header) (st : Start) (Z : Seen) (reached : Reached hd Z) (k : ℕ) (n : Node) (t : Parts) (here : Z.nodes k ≡ Some n)
-    (live : n.live ≡ Some t) (roots : AllByRecursion (λ (e : ℕ × Root). AreHad (HadIn st Z.lines) (PlanSo st Z.lines) e.0
+    (live : n.live ≡ Some t) (starts : Z.start ≡ st) (roots : AllByRecursion (λ (e : ℕ × Root). AreHad (HadIn st Z.lines) (PlanSo st Z.lines) e.0
     (let r = e.1 in r.grants)) t.coord.roots)
     (l : Label) (b : Branch) (named : branch_named l t.coord ≡ Some b) (free : refusal_up hd (input.Commit l) t.coord ≡ None)
-    (unnested : is_nested b.kind ≡ false) (unserial : is_serial b.kind ≡ false) where
+    (unnested : is_nested b.kind ≡ false) (unserial : is_serial b.kind ≡ false)
+    (incs : IsEarly Z.lines → branch_of (actor b.path) t.coord.tree ≡ Some b → (s : Said) →
+    list.In s (let r = root_at (root_of b.path) t.coord in r.said) → (old : KnownOf) →
+    kept_of s.x (root_at (root_of b.path) t.coord) ≡ Some old → old.recorded ≡ true → (i : ℕ) × (old.inc ≡ Some i)) where
   reasons : (is_some b.ended ≡ false) × (waits_above b t.coord ≡ false)
   reasons =
       let f : refused_by commit_reasons t.coord (Some b) ≡ None = subst (λ o. refused_by commit_reasons t.coord o ≡ None) named free in
@@ -379,6 +402,7 @@ module _ (hd : Header) (st : Start) (Z : Seen) (reached : Reached hd Z) (k : ℕ
     root = λ distinct. ⊎_elim
         {C = first_uid (uids (path_by (acts Z.lines) (let g = its.0 in g.top))) ≡ first_uid (uids (path_by (acts Z.lines) (actor b.path)))}
         (λ same. ap (λ v. first_uid (uids (path_by (acts Z.lines) v))) same) (λ kept. of_kept distinct kept) its.4;
+    server = server_so;
   }
     where
       settled : RecordsRun Z
@@ -403,6 +427,63 @@ module _ (hd : Header) (st : Start) (Z : Seen) (reached : Reached hd Z) (k : ℕ
       had = each_of (IsHad (HadIn st Z.lines) (PlanSo st Z.lines) (let w = root_of b.path in w.num))
           (root_at (root_of b.path) t.coord).grants its.0
           (its_grants (HadIn st Z.lines) (PlanSo st Z.lines) (root_of b.path) t.coord roots) its.1
+
+      -- where it was called, whose copy was active at the server
+      server_so : IsEarly Z.lines → (let w = used_of (actor b.path) (root_at (root_of b.path) t.coord) t.coord x in w.called) ≡ true →
+          (let w = used_of (actor b.path) (root_at (root_of b.path) t.coord) t.coord x in IsLined Z.lines w.x w.binding w.server
+          × IsActiveIn st Z.lines w.server w.x w.binding w.inc)
+      server_so early on = subst (λ (w : Used). IsLined Z.lines w.x w.binding w.server × IsActiveIn st Z.lines w.server w.x w.binding w.inc) (sym same) (
+        known.0,
+        subst (IsActiveIn st Z.lines (let q = kept_it.0 in q.server) x (let q = kept_it.0 in q.binding))
+            (sym (ap (λ o. unwrap_or o 0) inc.1)) (known.1 inc.0 inc.1 few),
+      )
+        where
+          said : (s : Said) × list.In s (said_in (actor b.path) (root_at (root_of b.path) t.coord) t.coord) × ((s.x == x) ≡ true)
+          said = one_passes (λ (s : Said). s.x == x) (said_in (actor b.path) (root_at (root_of b.path) t.coord) t.coord) on
+
+          there_too : list.In said.0 (let r = root_at (root_of b.path) t.coord in r.said)
+              × (counts (actor b.path) (let s = said.0 in s.path) t.coord ≡ true)
+          there_too = in_filter (λ (s : Said). counts (actor b.path) s.path t.coord) said.0
+              (let r = root_at (root_of b.path) t.coord in r.said) said.1
+
+          at_x : (let s = said.0 in s.x) ≡ x
+          at_x = eqb-true (let s = said.0 in s.x) x said.2
+
+          recorded : (o : Option KnownOf) → kept_of x (root_at (root_of b.path) t.coord) ≡ o → IsRecorded o →
+              (q : KnownOf) × (kept_of x (root_at (root_of b.path) t.coord) ≡ Some q) × (q.recorded ≡ true)
+          recorded None at is = absurd is
+          recorded (Some q) at is = (q, at, is)
+
+          kept_it : (q : KnownOf) × (kept_of x (root_at (root_of b.path) t.coord) ≡ Some q) × (q.recorded ≡ true)
+          kept_it = recorded (kept_of x (root_at (root_of b.path) t.coord)) refl
+              (subst (λ y. IsRecorded (kept_of y (root_at (root_of b.path) t.coord))) at_x
+              (⊎_elim {C = IsRecorded (kept_of (let s = said.0 in s.x) (root_at (root_of b.path) t.coord))}
+              (λ z. absurd (unspent Z.sent k t.coord (placed.place hd Z reached k n t here live) grants kept b found reasons.0 top said.0
+              there_too.0 there_too.1 z)) (λ r. r) (kept.said (root_of b.path) said.0 there_too.0)))
+
+          inc : (i : ℕ) × ((let q = kept_it.0 in q.inc) ≡ Some i)
+          inc = incs early found said.0 there_too.0 kept_it.0
+              (ap (λ y. kept_of y (root_at (root_of b.path) t.coord)) at_x ∙ kept_it.1) kept_it.2
+
+          says : AreAtSo (IsLined Z.lines) (active_by Z.lines) (met_in Z.start Z.lines) t.coord
+          says =
+              let z : KnowsBindings Z = reached_has hd KnowsBindings (keeps_asked hd KnowsBindings (bindings_keep hd)) Z reached in
+              let s = z.1.0 in (s.works k n t here live).0
+
+          known : IsKeptSo (IsLined Z.lines) (active_by Z.lines) (met_in st Z.lines) x (Some kept_it.0)
+          known = subst (IsKeptSo (IsLined Z.lines) (active_by Z.lines) (met_in st Z.lines) x) kept_it.1
+              (subst (λ s. IsKeptSo (IsLined Z.lines) (active_by Z.lines) (met_in s Z.lines) x (kept_of x (root_at (root_of b.path) t.coord)))
+              starts
+              (keyed_at (λ y (q : Keeping). IsKeptSo (IsLined Z.lines) (active_by Z.lines) (met_in Z.start Z.lines) y q.kept) no_keeping x tt
+              (let r = root_at (root_of b.path) t.coord in r.keeping)
+              (its_root (IsRootSo (IsLined Z.lines) (active_by Z.lines) (met_in Z.start Z.lines)) tt (root_of b.path) t.coord
+              (let a = says in a.roots))))
+
+          same : used_of (actor b.path) (root_at (root_of b.path) t.coord) t.coord x
+              ≡ used_with x true (actor b.path) (root_at (root_of b.path) t.coord) t.coord kept_it.0
+          same = (λ j. used_with x (on j) (actor b.path) (root_at (root_of b.path) t.coord) t.coord
+              (known_for (on j) x (root_at (root_of b.path) t.coord)))
+              ∙ ap (λ o. used_with x true (actor b.path) (root_at (root_of b.path) t.coord) t.coord (unwrap_or o nothing_known)) kept_it.1
 
       of_kept : AreDistinct (acts Z.lines) → is_kept_top (let g = its.0 in g.top) t.coord ≡ true →
           first_uid (uids (path_by (acts Z.lines) (let g = its.0 in g.top))) ≡ first_uid (uids (path_by (acts Z.lines) (actor b.path)))

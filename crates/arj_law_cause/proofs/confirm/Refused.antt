@@ -67,6 +67,7 @@ use Rattle.arj_law_serial.proofs.Terms.{Placed}
 use Rattle.arj_law_cause.proofs.confirm.{Says.MeetsRow, Says.Shows}
 use Rattle.arj_law_cause.proofs.waits.waiting.{Acting.Stands, Waiting.commit_is}
 use Rattle.arj_law_cause.proofs.waits.waiting.Acting as acting
+use Rattle.arj_law_cause.proofs.confirm.Ups.{UpsRise}
 
 -- ---- lists
 
@@ -129,8 +130,8 @@ Fits hd st lines (body.Aborted l (cause.Conflict u m n)) =
     IsEarly lines → (h : Here) → h.header ≡ hd → h.lines ≡ lines → confirm_meets h (name l) u m n ≡ true
 Fits hd st lines (body.Aborted l (cause.Old n y v)) = IsSettled lines → (h : Here) → h.header ≡ hd → h.start ≡ st → h.lines ≡ lines →
     is_old h (name l) n y v ≡ true
-Fits hd st lines (body.Aborted l (cause.Changed n d)) = (h : Here) → h.header ≡ hd → h.start ≡ st → h.lines ≡ lines →
-    is_changed_so h (body.Aborted l (cause.Changed n d)) ≡ true
+Fits hd st lines (body.Aborted l (cause.Changed n d)) = IsSettled lines → UpsRise st lines → (h : Here) → h.header ≡ hd → h.start ≡ st →
+    h.lines ≡ lines → is_changed_so h (body.Aborted l (cause.Changed n d)) ≡ true
 Fits hd st lines b = ⊤
 
 -- ---- at the coordinator

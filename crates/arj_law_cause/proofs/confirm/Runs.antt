@@ -46,9 +46,9 @@ use Rattle.arj_law_cause.proofs.confirm.{Refused.Fits, Refused.fits_line, Says.c
 use Rattle.arj_law_cause.proofs.kinds.Lines.{more_lines}
 use Rattle.arj_law_cause.proofs.waits.commits.Serving as Serving
 use Rattle.arj_law_cause.proofs.waits.commits.Serving.{AreStill, IsQuiet, goes_so, naming_quiet, quiet_plain, restart_still, tick_still}
-use Rattle.arj_law_cause.specs.kinds.Kinds.{is_bare_abort, is_changed_abort, is_listed_abort, is_met_abort}
+use Rattle.arj_law_cause.specs.kinds.Kinds.{is_bare_abort, is_listed_abort, is_met_abort}
 use Rattle.arj_law_cause.specs.kinds.Tests.{is_changed_so}
-use Rattle.arj_law_cause.specs.kinds.Rows.{RowHolds, TestHolds, TestedStep, tested}
+use Rattle.arj_law_cause.specs.kinds.Rows.{RowHolds, TestedStep, tested}
 use Rattle.arj_law_parts.proofs.Terms.which
 use Rattle.arj_law_parts.specs.moves.Moments.{no_history}
 use Rattle.arj_law_serial.proofs.Terms.{up_of}
@@ -159,9 +159,9 @@ module _ (hd : Header) (st : Start) where
   module _ (form : HeaderInForm hd) where
     heard_turn : (before : List Line) (event k : ℕ) (d : Disk) (t : Parts) (from : ℕ) (m : Message) (M : Moment) →
         Knows before event (up k d t M) → AnswersAreMade (confirms_so hd st) (up k d t M) → AnswersAreMade (old_so st) (up k d t M) →
-        In (record { from = from; to = k; message = m }) M.seen.sent → (a : Asked) (r : Reply) → answers m ≡ Some (a, r) →
-        Turn M.seen.lines (heard from a r d.intents t.coord).outs
-    heard_turn before event k d t from m M h made olds there a r is =
+        GrantsAreHad st (up k d t M) → In (record { from = from; to = k; message = m }) M.seen.sent → (a : Asked) (r : Reply) →
+        answers m ≡ Some (a, r) → Turn M.seen.lines (heard from a r d.intents t.coord).outs
+    heard_turn before event k d t from m M h made olds had there a r is =
         by (heard from a r d.intents t.coord).outs (heard_is from a r d.intents t.coord)
       where
         by : (outs : List Effect) → Heard from a r t.coord outs → Turn M.seen.lines outs
@@ -189,21 +189,24 @@ module _ (hd : Header) (st : Start) where
           body.Aborted w.label (cause.Changed n (Words.differs c)),
           rest,
           are,
-          (λ g header starts at. subst (λ z. is_changed_so z (body.Aborted w.label (cause.Changed n (Words.differs c))) ≡ true)
+          (λ settled rises g header starts at.
+              subst (λ z. is_changed_so z (body.Aborted w.label (cause.Changed n (Words.differs c))) ≡ true)
               (λ i. record g { header = sym header i; lines = sym at i })
-              (changed_row hd st before event k d t M (h.0, h.1.2) made from m there a r is w machine c n found now waits changes g starts)),
+              (changed_row hd st form before event k d t M (h.0, h.1.2) made from m there a r is w machine c n found now waits changes had g
+              starts settled rises)),
           all,
         )
 
     message_turn : (before : List Line) (event k : ℕ) (d : Disk) (t v : Parts) (from : ℕ) (m : Message) (outs : List Effect) (M : Moment) →
         Knows before event (up k d t M) → AnswersAreMade (confirms_so hd st) (up k d t M) → AnswersAreMade (old_so st) (up k d t M) →
-        In (record { from = from; to = k; message = m }) M.seen.sent → handle k d t from m ≡ Took v outs → Turn M.seen.lines outs
-    message_turn before event k d t v from m outs M h made olds there is =
+        GrantsAreHad st (up k d t M) → In (record { from = from; to = k; message = m }) M.seen.sent → handle k d t from m ≡ Took v outs →
+        Turn M.seen.lines outs
+    message_turn before event k d t v from m outs M h made olds had there is =
         subst (Serving.GoesSo (IsQuiet plain) (quiet_plain plain parts_plain) (Turn M.seen.lines)
         (λ es all. inl all) k d t (λ n at. naming_quiet plain parts_plain d.names n) from) is
         (goes_so (IsQuiet plain) (quiet_plain plain parts_plain) (Turn M.seen.lines) (λ es all. inl all) k d t
         (λ n at. naming_quiet plain parts_plain d.names n) from m
-        (λ a r says. heard_turn before event k d t from m M h made olds there a r says))
+        (λ a r says. heard_turn before event k d t from m M h made olds had there a r says))
 
     module _ (before : List Line) (event : ℕ) (early : (j : ℕ) → (event == up_of j before) ≡ false) where
       abbrev Known_now : Moment → Type 0
@@ -222,7 +225,7 @@ module _ (hd : Header) (st : Start) where
           tells hd st form before event early k d t v from m h a r front M (g.0, g.1.2) there other meant asking new is))
 
       had_known : KeepsSteps hd (Had before event)
-      had_known = had_steps st hd Known_now known_steps (λ k d t M h. h.1.0.0.1) (λ k d t M h. h.1.1)
+      had_known = had_steps st hd form Known_now known_steps (λ k d t M h. h.1.0.0.1) (λ k d t M h. h.1.0.1.2) (λ k d t M h. h.1.1)
 
       abbrev Known_all : Moment → Type 0
       Known_all M = Had before event M × AnswersAreMade (old_so st) M
@@ -239,7 +242,7 @@ module _ (hd : Header) (st : Start) where
         message = λ k d t v from m outs M h there meant may is.
             with_both Known_all LinesFit k outs (UpWith Known_all k v) (UpWith LinesFit k v) d M
             (g.message k d t v from m outs M h.0 there meant may is)
-            (turn_walk k v outs d M (message_turn before event k d t v from m outs M h.0.0.0.1.0 h.0.0.0.1.1 h.0.1 there is) h.1);
+            (turn_walk k v outs d M (message_turn before event k d t v from m outs M h.0.0.0.1.0 h.0.0.0.1.1 h.0.1 h.0.0.1 there is) h.1);
         act = λ k d t i M is brings first asks free h. let did = does i d.intents t.coord in
             with_both Known_all LinesFit k did.outs (UpWith Known_all k (with_coord t did.part))
             (UpWith LinesFit k (with_coord t did.part)) d
@@ -352,7 +355,7 @@ runs_early hd r form = record {
 -- ---- rows
 
 -- so it is known of a line
-abbrev IsSo : Header → Start → List Line → Body → Type 0
+abbrev pub IsSo : Header → Start → List Line → Body → Type 0
 IsSo hd st before b = Fits hd st before b × IsEarly before
 
 module _ (hd : Header) (st : Start) (So : List Line → Body → Type 0) (test of : Here → Body → Bool)
@@ -386,7 +389,7 @@ module _ (hd : Header) (st : Start) (So : List Line → Body → Type 0) (test o
   pub rows_so : (P : Past → Event → List Body → Type 0) (es : List Event) → Runs P st es lines → Runs (TestedStep test of hd) st es lines
   rows_so P es r = (r.0, r.1, along_so P es _ r.0 r.1 refl r.3 r.2, r.3, r.4)
 
-each_line : (hd : Header) (r : Run hd) → IsInForm hd r → (before : List Line) (line : Line) (behind : List Line) →
+pub each_line : (hd : Header) (r : Run hd) → IsInForm hd r → (before : List Line) (line : Line) (behind : List Line) →
     journal_by hd r ≡ before ++ line ∷ behind → IsSo hd r.start before line.body
 each_line hd r form before line behind is = (
   lines.fit_at (Fits hd r.start) [] before line behind (subst (AreFit hd r.start []) is (lines_fit hd r.start form.header r refl)),
@@ -408,11 +411,6 @@ met_cause : (hd : Header) (st : Start) (h : Here) (b : Body) → h.header ≡ hd
 met_cause hd st h (body.Aborted l (cause.Conflict u m n)) header starts its so = so.0 so.1 h header refl
 met_cause hd st h b header starts its so = absurd (cc its)
 
-changed_cause : (hd : Header) (st : Start) (h : Here) (b : Body) → h.header ≡ hd → h.start ≡ st → is_changed_abort b ≡ true →
-    IsSo hd st h.lines b → is_changed_so h b ≡ true
-changed_cause hd st h (body.Aborted l (cause.Changed n d)) header starts its so = so.0 h header starts refl
-changed_cause hd st h b header starts its so = absurd (cc its)
-
 pub listed_row : RowHolds is_listed_abort
 listed_row hd r form = rows_so hd r.start (IsSo hd r.start) has_cause (λ h. is_listed_abort) (listed_cause hd r.start) (journal_by hd r)
     (each_line hd r form)
@@ -425,11 +423,5 @@ bare_row hd r form = rows_so hd r.start (IsSo hd r.start) has_cause (λ h. is_ba
 
 pub met_row : RowHolds is_met_abort
 met_row hd r form = rows_so hd r.start (IsSo hd r.start) has_cause (λ h. is_met_abort) (met_cause hd r.start) (journal_by hd r)
-    (each_line hd r form)
-    (FramesStep hd) (run_events hd r) (frames_are_caused hd r form)
-
--- each that a server, or naming, refused since something changed has this much of its cause
-pub changed_test : TestHolds is_changed_so is_changed_abort
-changed_test hd r form = rows_so hd r.start (IsSo hd r.start) is_changed_so (λ h. is_changed_abort) (changed_cause hd r.start) (journal_by hd r)
     (each_line hd r form)
     (FramesStep hd) (run_events hd r) (frames_are_caused hd r form)

@@ -1,10 +1,11 @@
 -- By the lock machine of a call's object no two incarnations of a binding's server are named: an Invoke names the one that its root keeps,
 -- and naming answers with that one.
 use Rattle.arj_law_parts.proofs.Words
-use Words.{◌≡◌, ◌∙◌, ℕ, List, Option, Some, None, Bool, true, false, refl, sym, ap, subst, is_some, first_uid, eqb-true}
+use Words.{◌≡◌, ◌∙◌, ℕ, List, [], ◌∷◌, Option, Some, None, Bool, true, false, refl, sym, ap, subst, is_some, first_uid, eqb-true}
 use Words.{Ask, Asked, Head, Message, Post, Reply, Uid, Header, Seen, Disk, Parts, Node, Binding, asks, answers, asked_by}
 use Words.{Branch, branch_of, root_of, doing_of, Doing, Steps, Calling, Known, Run, AtInvoke, kept_at, kept_of, keeping_of, root_at}
-use Words.{binding_eq, binding_number, cond, Op, top_of, ⊤}
+use Words.{binding_eq, binding_number, cond, Op, top_of, ⊤, AllByRecursion, Committing, Machine, Root, Said, Used, inl, inr, no_root, plan_of}
+use Words.list
 use Words.ask
 use Words.bound
 use Words.message
@@ -25,7 +26,8 @@ use Rattle.arj_law_lock_view.specs.view.Hearing.{ShowsNamingReply}
 use Rattle.arj_law_lock_view.specs.view.Roots.{SeesKeeping}
 use Rattle.arj_law_parts.specs.moves.Keeps.{Holds}
 use Rattle.arj_law_parts.specs.moves.Seen.{In, Within, up, with_sent}
-use Rattle.arj_law_parts.specs.parts.{AskedObjects.IsNowOf}
+use Rattle.arj_law_parts.proofs.parts.LivesNamed.{keyed_at}
+use Rattle.arj_law_parts.specs.parts.{AskedObjects.IsNowOf, AskedObjects.IsRootOf}
 use Rattle.arj_law_promise.proofs.Terms as promise
 use promise.{IsUp, IsUsedIn, UsesOf, WaitsAreKnown}
 use Rattle.arj_law_promise.proofs.waiting.{Keeping.waits_keep, Known.used_is}
@@ -57,6 +59,11 @@ not_both (message.Prepare m) q z a b = none_is b
 not_both (message.Confirm m) q z a b = none_is b
 not_both m q z a b = none_is a
 
+all_in : {A : Type 0} (P : A → Type 0) (a : A) (xs : List A) → AllByRecursion P xs → list.In a xs → P a
+all_in P a [] every i = absurd i
+all_in {A} P a (x ∷ xs) every (inl same) = subst P same every.0
+all_in P a (x ∷ xs) every (inr i) = all_in P a xs every.1 i
+
 -- what is seen at a node that is up, of a run that reached it
 module _ (hd : Header) (form : HeaderInForm hd) (k : ℕ) (d : Disk) (t : Parts) (M : Seen) (sent : List Post)
     (reached : Reached hd (with_sent sent (up k d t M))) (early : IsEarly M.lines) where
@@ -85,6 +92,24 @@ module _ (hd : Header) (form : HeaderInForm hd) (k : ℕ) (d : Disk) (t : Parts)
       let used : IsUsedIn t.coord.tree (let r = root_of s.path in r.num) s.x =
       subst (IsNowOf t.coord.tree) now (let o = its_up.objects in o.works u w does) in
       object_some hd s.x (used_is (HasObject hd) t.coord.tree uses (let r = root_of s.path in r.num) s.x used)
+
+  -- and those of calls that roots were answered, and of plans of commits
+  pub said_object : (root : Uid) (s : Said) → list.In s (let r = root_at root t.coord in r.said) → is_some (object_line hd s.x) ≡ true
+  said_object root s i =
+      let o = its_up.objects in
+      let all : IsRootOf t.coord.tree root.num (root_at root t.coord) =
+      keyed_at (λ y (r : Root). IsRootOf t.coord.tree y r) no_root root.num (tt, tt) t.coord.roots o.roots in
+      object_some hd s.x (used_is (HasObject hd) t.coord.tree uses root.num s.x
+      (all_in (λ (z : Said). IsUsedIn t.coord.tree root.num z.x) s (let r = root_at root t.coord in r.said) all.0 i))
+
+  pub plan_object : (u : Uid) (w : Doing) (m : Machine) → doing_of u t.coord ≡ Some w → w.now ≡ Committing m → (v : Used) →
+      list.In v (let p = plan_of m in p.used) → HasObject hd v.x
+  plan_object u w m does now v i =
+      let p = plan_of m in
+      let used : IsUsedIn t.coord.tree (let r = root_of p.path in r.num) v.x =
+      all_in (λ (z : Used). IsUsedIn t.coord.tree (let r = root_of p.path in r.num) z.x) v p.used
+      (subst (IsNowOf t.coord.tree) now (let o = its_up.objects in o.works u w does)) i in
+      used_is (HasObject hd) t.coord.tree uses (let r = root_of p.path in r.num) v.x used
 
   -- ---- the lock machine of one
 
@@ -128,21 +153,21 @@ module _ (hd : Header) (form : HeaderInForm hd) (k : ℕ) (d : Disk) (t : Parts)
     abbrev begun : List Action
     begun = m.locks.0
 
-    requests : RequestsAreOne N
+    pub requests : RequestsAreOne N
     requests = one_requests x begun N m.few m.locks.2.0
 
     -- the requests of all messages that it sees are known
     pub asked_known : RequestsAreKnown N
     asked_known = (let q = m.locks.2.0 in q.requests)
 
-    seen : (f : Fixed) → AreApart f.code → AgreesAs (first_values hd) N.start.marks f x begun m.more →
+    pub seen : (f : Fixed) → AreApart f.code → AgreesAs (first_values hd) N.start.marks f x begun m.more →
         (S : State) × SeesLocks f x begun S N × AreTied f x M.lines S
     seen f apart a = let g = m.locks.3 f (a.0, (a.1, apart)) in (g.0, g.1, g.2)
 
     abbrev f : Fixed
     f = fixed_at (first_values hd) x N begun m.locks.1 seen requests code_of
 
-    agrees : AgreesApart (first_values hd) N.start.marks f x begun m.more
+    pub agrees : AgreesApart (first_values hd) N.start.marks f x begun m.more
     agrees = let a = agrees_at (first_values hd) x N begun m.locks.1 seen requests code_of in (a.0, (a.1, codes_are_apart))
 
     abbrev S : State
@@ -182,7 +207,7 @@ module _ (hd : Header) (form : HeaderInForm hd) (k : ℕ) (d : Disk) (t : Parts)
           (steady.alike.above u (root_of b.path) ∙ r.2)))
           ∙ ap first_uid (sym (z.lists.paths_are u b found)))
 
-      keeps : (old : Known) → kept_of x (root_at (root_of b.path) t.coord) ≡ Some old →
+      pub keeps : (old : Known) → kept_of x (root_at (root_of b.path) t.coord) ≡ Some old →
           SeesKept (root (f.act (root_of b.path))) old S
       keeps old is = subst (λ o. SeesKeeping (root (f.act (root_of b.path))) o
           (let q = keeping_of x (root_at (root_of b.path) t.coord) in q.avoid) S) is root_seen.keeping
@@ -267,3 +292,13 @@ module _ (hd : Header) (form : HeaderInForm hd) (k : ℕ) (d : Disk) (t : Parts)
               shown : ShowsBound f.act (top_of (let q = z.head in q.path)) avoid S (Some (bound.Live c server i g stores))
               shown = (subst (λ y. ShowsNamingReply (view_of f x begun k) z.head y S (Reply.Bound (bound.Live c server i g stores))) asked
                   z.naming) refl
+
+-- a binding that is kept of a call that was answered, and is known to be recorded, has its server's incarnation
+module _ (hd : Header) (form : HeaderInForm hd) (k : ℕ) (d : Disk) (t : Parts) (M : Seen) (sent : List Post)
+    (reached : Reached hd (with_sent sent (up k d t M))) (early : IsEarly M.lines) where
+  pub kept_inc : (u : Uid) (b : Branch) → branch_of u t.coord.tree ≡ Some b → (s : Said) →
+      list.In s (let r = root_at (root_of b.path) t.coord in r.said) → (old : Known) →
+      kept_of s.x (root_at (root_of b.path) t.coord) ≡ Some old → old.recorded ≡ true → (i : ℕ) × (old.inc ≡ Some i)
+  kept_inc u b found s there old is recorded =
+      let m = is_locked hd form k d t M sent reached early s.x (said_object hd form k d t M sent reached early (root_of b.path) s there) in
+      let z = keeps hd form k d t M sent reached early s.x m u b found old is in (z.recorded recorded).1

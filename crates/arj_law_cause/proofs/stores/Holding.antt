@@ -11,7 +11,7 @@ use Rattle.arj_law_disk_view.specs.deciding_lines.Said.{IsJournalled}
 use Rattle.arj_law_disk_view.specs.view.Pairs.{Holder, packed}
 use Rattle.arj_law_disk_view.specs.view.Stores.{SeesStore}
 use Rattle.arj_law_parts.proofs.Words
-use Words.{◌≡◌, ◌⊎◌, ◌<◌, ◌∙◌, ◌+◌, ◌++◌, ℕ, true, false, Bool, List, ◌∷◌, Option, Some, None, refl, sym, ap, subst}
+use Words.{◌≡◌, ◌<◌, ◌∙◌, ◌+◌, ◌++◌, ℕ, true, false, Bool, List, ◌∷◌, Option, Some, None, refl, sym, ap, subst}
 use Words.{inl, inr, ⊎_elim, arith, is_some, unwrap_or, In, Header, Label, Line, Node, ObjectState, Seen, World, at_place, at_uid}
 use Words.{held_at, in_to, is_prepared}
 use Words.{◌&&◌, cond, eq-eqb, name, number_tells, object, see, uid_number, writes, Wrote}

@@ -16,7 +16,7 @@ use Rattle.arj_start.specs.Start.{Start}
 use Rattle.arj_law_cause.proofs.bindings.Active.{active_row}
 use Rattle.arj_law_cause.proofs.bindings.Bound.{bound_row}
 use Rattle.arj_law_cause.proofs.bindings.Lowered.{lowered_row}
-use Rattle.arj_law_cause.proofs.confirm.{Overdue.old_row, Runs.bare_row, Runs.changed_test, Runs.listed_row, Runs.met_row}
+use Rattle.arj_law_cause.proofs.confirm.{Differs.changed_test, Overdue.old_row, Runs.bare_row, Runs.listed_row, Runs.met_row}
 use Rattle.arj_law_cause.proofs.kinds.Aborts.{abort_row}
 use Rattle.arj_law_cause.proofs.kinds.Committed.{done_row}
 use Rattle.arj_law_cause.proofs.kinds.Denied.{step_fits}

@@ -1,21 +1,13 @@
 -- The lines that answer calls, against the causes that the journal has for them.
-use Rattle.std.specs.Prelude.{◌≡◌, ℕ, List, [], ◌∷◌, Bool, true, ◌&&◌, ◌||◌, not}
-use Rattle.arj_base.specs.Rows.{is_on}
-use Rattle.arj_base.specs.declared.mode.Mode.{Mode}
-use Rattle.arj_base.specs.declared.uid.Uid.{Uid}
-use Rattle.arj_base.specs.declared.mode.Mode.TheVariants.{Write}
+use Rattle.std.specs.Prelude.{◌≡◌, List, Bool, true}
 use Rattle.arj_journal.specs.declared.body.Body.{Body}
 use Rattle.arj_journal.specs.declared.body.Body.TheVariants as body
-use Rattle.arj_journal.specs.declared.body.FrameKind.TheVariants as frame
 use Rattle.arj_journal.specs.declared.event.Event.{Event}
 use Rattle.arj_journal.specs.declared.header.Header.{Header}
-use Rattle.arj_text.specs.Label.{name}
-use Rattle.arj_model.specs.Actions.{uids}
-use Rattle.arj_model.specs.CauseSpans.{Here, act_by, answered, asks_so, here_at, holds_in, same_mode}
+use Rattle.arj_model.specs.CauseSpans.{Here, here_at}
 use Rattle.arj_model.specs.Past.{Past}
 use Rattle.arj_model.specs.Caused.{has_cause}
 use Rattle.arj_model.specs.Follows.{Runs}
-use Rattle.arj_model.specs.Refusals.{object_used}
 use Rattle.arj_law_runs.specs.follow.Frames.{are_so, run_events}
 use Rattle.arj_promise.specs.Runs.{IsInForm, Run, journal_by}
 

@@ -1,4 +1,4 @@
-use Rattle.arj_law_cause.proofs.confirm.{Overdue.old_row, Runs.bare_row, Runs.changed_test, Runs.listed_row, Runs.met_row}
+use Rattle.arj_law_cause.proofs.confirm.{Differs.changed_test, Overdue.old_row, Runs.bare_row, Runs.listed_row, Runs.met_row}
 use Rattle.arj_law_cause.proofs.causes.refused_commits_have_causes.Goals as goal
 
 pub returns : goal.returns
