@@ -14,411 +14,348 @@ use std::test::Fail;
 
 #[test]
 fn lines_have_their_texts(rt: HostRuntime) -> Result<(), Fail> {
-    for place in 0..46usize {
-        assert!(rt; line_is_right(rt.alloc(), place)?, "line {place}");
+    for (place, text) in LINES.iter().enumerate() {
+        assert!(rt;
+            has_text(rt.alloc(), body_at(rt.alloc(), place)?, text)?,
+            "{text}"
+        );
     }
-    for place in 0..7usize {
-        assert!(rt; call_is_right(rt.alloc(), place)?, "call {place}");
+    for (place, text) in CALLS.iter().enumerate() {
+        assert!(rt;
+            has_text(rt.alloc(), call_at(rt.alloc(), place)?, text)?,
+            "{text}"
+        );
     }
     Ok(())
 }
 
-// The table of lines.
-fn line_is_right(alloc: Global, place: usize) -> Result<bool, AllocError> {
+// The texts of lines of event 20, behind its number.
+const LINES: [&str; 46] = [
+    "began A top 1.1.1 -",
+    "began Abcdefghij012345 nested 1.1.2 A",
+    "began A independent 1.1.1 Abcdefghij012345",
+    "began A serial 1.2.1 -",
+    "began A constituent 1.1.1 A",
+    "includes A 1 3",
+    "conflict A 2.1.1 exclude 1",
+    "lost A 2",
+    "changed A 2 inc 1 2",
+    "changed A 2 bind 1.7 4294967295.8",
+    "committing A",
+    "committed A",
+    "ended A",
+    "aborted A asked",
+    "aborted A doomed",
+    "aborted A lost 16",
+    "aborted A conflict 2.1.1 read 1",
+    "aborted A changed 2 inc 1 2",
+    "aborted A old 3 1 18446744073709551615",
+    "aborted A nostores 256",
+    "aborted A listed 1 3",
+    "gaveup A 4",
+    "excluded A 1 4",
+    "granted 1 1.1.1 0.0.1 write",
+    "lowered 1 1.1.1 0.1.1",
+    "bound 1 1.2 3",
+    "active 2 1 1.3",
+    "told 1 1.1.1 commit naming",
+    "told 1 1.1.1 abort server",
+    "prepared 3 2.1.1 store",
+    "done 1 2.1.1 names commit",
+    "sent 8 0 1 junk",
+    "got 1",
+    "void 12",
+    "dropped 8",
+    "halted 1",
+    "up 1 2",
+    "armed 2",
+    "recovered 1 1.1.1",
+    "refused 16",
+    "entry 1 2 1 2,3",
+    "copy 4 1 0 0.0.0 0000000000000001",
+    "quiet yes",
+    "quiet no",
+    "bad 7",
+    "limit frames",
+];
+
+// What the line at this place of the table says.
+fn body_at(alloc: Global, place: usize) -> Result<Body, AllocError> {
     match place {
-        0..13 => action_line_is_right(alloc, place),
-        13..21 => aborted_line_is_right(alloc, place),
-        21..31 => object_line_is_right(alloc, place),
-        31..46 => node_line_is_right(alloc, place),
-        _ => Ok(false),
+        0..13 => Ok(action_body(place)),
+        13..21 => Ok(aborted_body(place)),
+        21..31 => Ok(object_body(place)),
+        _ => node_body(alloc, place),
     }
 }
 
-// Lines of actions.
-fn action_line_is_right(alloc: Global, place: usize) -> Result<bool, AllocError> {
+// What lines of actions say.
+fn action_body(place: usize) -> Body {
     let a = Label::new(b"A");
     let long = Label::new(b"Abcdefghij012345");
     let first = uid(1, 1, 1);
     let second = uid(2, 1, 1);
     match place {
-        0 => has_text(
-            alloc,
-            Body::Began {
-                label: a,
-                kind: Kind::Top,
-                uid: first,
-                parent: None,
-            },
-            "began A top 1.1.1 -",
-        ),
-        1 => has_text(
-            alloc,
-            Body::Began {
-                label: long,
-                kind: Kind::Nested,
-                uid: uid(1, 1, 2),
-                parent: Some(a),
-            },
-            "began Abcdefghij012345 nested 1.1.2 A",
-        ),
-        2 => has_text(
-            alloc,
-            Body::Began {
-                label: a,
-                kind: Kind::Independent,
-                uid: first,
-                parent: Some(long),
-            },
-            "began A independent 1.1.1 Abcdefghij012345",
-        ),
-        3 => has_text(
-            alloc,
-            Body::Began {
-                label: a,
-                kind: Kind::Serial,
-                uid: uid(1, 2, 1),
-                parent: None,
-            },
-            "began A serial 1.2.1 -",
-        ),
-        4 => has_text(
-            alloc,
-            Body::Began {
-                label: a,
-                kind: Kind::Constituent,
-                uid: first,
-                parent: Some(a),
-            },
-            "began A constituent 1.1.1 A",
-        ),
-        5 => has_text(
-            alloc,
-            Body::Includes {
-                label: a,
-                x: 1,
-                node: 3,
-            },
-            "includes A 1 3",
-        ),
-        6 => has_text(
-            alloc,
-            Body::Conflict {
-                label: a,
+        0 => Body::Began {
+            label: a,
+            kind: Kind::Top,
+            uid: first,
+            parent: None,
+        },
+        1 => Body::Began {
+            label: long,
+            kind: Kind::Nested,
+            uid: uid(1, 1, 2),
+            parent: Some(a),
+        },
+        2 => Body::Began {
+            label: a,
+            kind: Kind::Independent,
+            uid: first,
+            parent: Some(long),
+        },
+        3 => Body::Began {
+            label: a,
+            kind: Kind::Serial,
+            uid: uid(1, 2, 1),
+            parent: None,
+        },
+        4 => Body::Began {
+            label: a,
+            kind: Kind::Constituent,
+            uid: first,
+            parent: Some(a),
+        },
+        5 => Body::Includes {
+            label: a,
+            x: 1,
+            node: 3,
+        },
+        6 => Body::Conflict {
+            label: a,
+            holder: second,
+            mode: Mode::Exclude,
+            node: 1,
+        },
+        7 => Body::Lost { label: a, node: 2 },
+        8 => Body::Changed {
+            label: a,
+            node: 2,
+            difference: inc(),
+        },
+        9 => Body::Changed {
+            label: a,
+            node: 2,
+            difference: bind(),
+        },
+        10 => Body::Committing { label: a },
+        11 => Body::Committed { label: a },
+        _ => Body::Ended { label: a },
+    }
+}
+
+// What lines of aborts say, with their causes.
+fn aborted_body(place: usize) -> Body {
+    let a = Label::new(b"A");
+    let second = uid(2, 1, 1);
+    match place {
+        13 => Body::Aborted {
+            label: a,
+            cause: Cause::Asked,
+        },
+        14 => Body::Aborted {
+            label: a,
+            cause: Cause::Doomed,
+        },
+        15 => Body::Aborted {
+            label: a,
+            cause: Cause::Lost { node: 16 },
+        },
+        16 => Body::Aborted {
+            label: a,
+            cause: Cause::Conflict {
                 holder: second,
-                mode: Mode::Exclude,
+                mode: Mode::Read,
                 node: 1,
             },
-            "conflict A 2.1.1 exclude 1",
-        ),
-        7 => has_text(alloc, Body::Lost { label: a, node: 2 }, "lost A 2"),
-        8 => has_text(
-            alloc,
-            Body::Changed {
-                label: a,
+        },
+        17 => Body::Aborted {
+            label: a,
+            cause: Cause::Changed {
                 node: 2,
                 difference: inc(),
             },
-            "changed A 2 inc 1 2",
-        ),
-        9 => has_text(
-            alloc,
-            Body::Changed {
-                label: a,
-                node: 2,
-                difference: bind(),
-            },
-            "changed A 2 bind 1.7 4294967295.8",
-        ),
-        10 => has_text(alloc, Body::Committing { label: a }, "committing A"),
-        11 => has_text(alloc, Body::Committed { label: a }, "committed A"),
-        12 => has_text(alloc, Body::Ended { label: a }, "ended A"),
-        _ => Ok(false),
-    }
-}
-
-// Lines of aborts, with their causes.
-fn aborted_line_is_right(alloc: Global, place: usize) -> Result<bool, AllocError> {
-    let a = Label::new(b"A");
-    let second = uid(2, 1, 1);
-    match place {
-        13 => has_text(
-            alloc,
-            Body::Aborted {
-                label: a,
-                cause: Cause::Asked,
-            },
-            "aborted A asked",
-        ),
-        14 => has_text(
-            alloc,
-            Body::Aborted {
-                label: a,
-                cause: Cause::Doomed,
-            },
-            "aborted A doomed",
-        ),
-        15 => has_text(
-            alloc,
-            Body::Aborted {
-                label: a,
-                cause: Cause::Lost { node: 16 },
-            },
-            "aborted A lost 16",
-        ),
-        16 => has_text(
-            alloc,
-            Body::Aborted {
-                label: a,
-                cause: Cause::Conflict {
-                    holder: second,
-                    mode: Mode::Read,
-                    node: 1,
-                },
-            },
-            "aborted A conflict 2.1.1 read 1",
-        ),
-        17 => has_text(
-            alloc,
-            Body::Aborted {
-                label: a,
-                cause: Cause::Changed {
-                    node: 2,
-                    difference: inc(),
-                },
-            },
-            "aborted A changed 2 inc 1 2",
-        ),
-        18 => has_text(
-            alloc,
-            Body::Aborted {
-                label: a,
-                cause: Cause::Old {
-                    node: 3,
-                    x: 1,
-                    version: 18446744073709551615,
-                },
-            },
-            "aborted A old 3 1 18446744073709551615",
-        ),
-        19 => has_text(
-            alloc,
-            Body::Aborted {
-                label: a,
-                cause: Cause::NoStores { x: 256 },
-            },
-            "aborted A nostores 256",
-        ),
-        20 => has_text(
-            alloc,
-            Body::Aborted {
-                label: a,
-                cause: Cause::Listed { x: 1, node: 3 },
-            },
-            "aborted A listed 1 3",
-        ),
-        _ => Ok(false),
-    }
-}
-
-// Lines of actions at objects and parts.
-fn object_line_is_right(alloc: Global, place: usize) -> Result<bool, AllocError> {
-    let a = Label::new(b"A");
-    let first = uid(1, 1, 1);
-    let second = uid(2, 1, 1);
-    match place {
-        21 => has_text(alloc, Body::GaveUp { label: a, node: 4 }, "gaveup A 4"),
-        22 => has_text(
-            alloc,
-            Body::Excluded {
-                label: a,
-                x: 1,
-                node: 4,
-            },
-            "excluded A 1 4",
-        ),
-        23 => has_text(
-            alloc,
-            Body::Granted {
-                node: 1,
-                action: first,
-                object: object_uid(1),
-                mode: Mode::Write,
-            },
-            "granted 1 1.1.1 0.0.1 write",
-        ),
-        24 => has_text(
-            alloc,
-            Body::Lowered {
-                node: 1,
-                action: first,
-                object: entry_uid(1),
-            },
-            "lowered 1 1.1.1 0.1.1",
-        ),
-        25 => has_text(
-            alloc,
-            Body::Bound {
-                x: 1,
-                binding: binding(1, 2),
-                node: 3,
-            },
-            "bound 1 1.2 3",
-        ),
-        26 => has_text(
-            alloc,
-            Body::Active {
-                node: 2,
-                x: 1,
-                binding: binding(1, 3),
-            },
-            "active 2 1 1.3",
-        ),
-        27 => has_text(
-            alloc,
-            Body::Told {
-                node: 1,
-                action: first,
-                end: End::Commit,
-                part: Part::Naming,
-            },
-            "told 1 1.1.1 commit naming",
-        ),
-        28 => has_text(
-            alloc,
-            Body::Told {
-                node: 1,
-                action: first,
-                end: End::Abort,
-                part: Part::Server,
-            },
-            "told 1 1.1.1 abort server",
-        ),
-        29 => has_text(
-            alloc,
-            Body::Prepared {
-                node: 3,
-                action: second,
-                role: Role::Store,
-            },
-            "prepared 3 2.1.1 store",
-        ),
-        30 => has_text(
-            alloc,
-            Body::Done {
-                node: 1,
-                action: second,
-                role: Role::Names,
-                end: End::Commit,
-            },
-            "done 1 2.1.1 names commit",
-        ),
-        _ => Ok(false),
-    }
-}
-
-// Lines of frames, nodes, objects and ends.
-fn node_line_is_right(alloc: Global, place: usize) -> Result<bool, AllocError> {
-    let first = uid(1, 1, 1);
-    match place {
-        31 => has_text(
-            alloc,
-            Body::Sent {
-                frame: 8,
-                from: 0,
-                to: 1,
-                kind: FrameKind::Junk,
-            },
-            "sent 8 0 1 junk",
-        ),
-        32 => has_text(alloc, Body::Got { frame: 1 }, "got 1"),
-        33 => has_text(alloc, Body::Void { frame: 12 }, "void 12"),
-        34 => has_text(alloc, Body::Dropped { frame: 8 }, "dropped 8"),
-        35 => has_text(alloc, Body::Halted { node: 1 }, "halted 1"),
-        36 => has_text(alloc, Body::Up { node: 1, inc: 2 }, "up 1 2"),
-        37 => has_text(alloc, Body::Armed { node: 2 }, "armed 2"),
-        38 => has_text(
-            alloc,
-            Body::Recovered {
-                node: 1,
-                action: first,
-            },
-            "recovered 1 1.1.1",
-        ),
-        39 => has_text(alloc, Body::Refused { cause: 16 }, "refused 16"),
-        40 => has_text(
-            alloc,
-            Body::Entry {
-                x: 1,
-                version: 2,
-                servers: bytes(alloc, &[1])?,
-                stores: bytes(alloc, &[2, 3])?,
-            },
-            "entry 1 2 1 2,3",
-        ),
-        41 => has_text(
-            alloc,
-            Body::Copy {
-                node: 4,
-                x: 1,
-                version: 0,
-                writer: uid(0, 0, 0),
-                payload: bytes(alloc, &[0, 0, 0, 0, 0, 0, 0, 1])?,
-            },
-            "copy 4 1 0 0.0.0 0000000000000001",
-        ),
-        42 => has_text(alloc, Body::Quiet { yes: true }, "quiet yes"),
-        43 => has_text(alloc, Body::Quiet { yes: false }, "quiet no"),
-        44 => has_text(alloc, Body::Bad { line: 7 }, "bad 7"),
-        45 => has_text(
-            alloc,
-            Body::Limit {
-                which: Which::Frames,
-            },
-            "limit frames",
-        ),
-        _ => Ok(false),
-    }
-}
-
-// Calls with their answers.
-fn call_is_right(alloc: Global, place: usize) -> Result<bool, AllocError> {
-    match place {
-        0 => call_has_text(
-            alloc,
-            Op::Get,
-            Answer::Text(bytes(alloc, &[0, 255])?),
-            "get = 00ff",
-        ),
-        1 => call_has_text(alloc, Op::Add(1), Answer::Over, "add 1 = over"),
-        2 => call_has_text(alloc, Op::Pop, Answer::Nothing, "pop = none"),
-        3 => call_has_text(alloc, Op::PutPair(1, 2), Answer::Done, "put 1 2 = done"),
-        4 => call_has_text(alloc, Op::Get, Answer::Gone, "get = gone"),
-        5 => call_has_text(
-            alloc,
-            Op::Create(Value::Counter(Counter::new(7))),
-            Answer::There,
-            "create counter 7 = there",
-        ),
-        6 => call_has_text(alloc, Op::Destroy, Answer::Done, "destroy = done"),
-        _ => Ok(false),
-    }
-}
-
-// A call of B on object 2.
-fn call_has_text(alloc: Global, op: Op, answer: Answer, want: &str) -> Result<bool, AllocError> {
-    let label = Label::new(b"B");
-    let answer = answer_text(alloc, &answer)?;
-    let want = format!(in alloc; "ok B 2 {want}")?;
-    has_text(
-        alloc,
-        Body::Ok {
-            label,
-            x: 2,
-            op,
-            answer,
         },
-        want.as_str(),
-    )
+        18 => Body::Aborted {
+            label: a,
+            cause: Cause::Old {
+                node: 3,
+                x: 1,
+                version: 18446744073709551615,
+            },
+        },
+        19 => Body::Aborted {
+            label: a,
+            cause: Cause::NoStores { x: 256 },
+        },
+        _ => Body::Aborted {
+            label: a,
+            cause: Cause::Listed { x: 1, node: 3 },
+        },
+    }
+}
+
+// What lines of actions at objects and parts say.
+fn object_body(place: usize) -> Body {
+    let a = Label::new(b"A");
+    let first = uid(1, 1, 1);
+    let second = uid(2, 1, 1);
+    match place {
+        21 => Body::GaveUp { label: a, node: 4 },
+        22 => Body::Excluded {
+            label: a,
+            x: 1,
+            node: 4,
+        },
+        23 => Body::Granted {
+            node: 1,
+            action: first,
+            object: object_uid(1),
+            mode: Mode::Write,
+        },
+        24 => Body::Lowered {
+            node: 1,
+            action: first,
+            object: entry_uid(1),
+        },
+        25 => Body::Bound {
+            x: 1,
+            binding: binding(1, 2),
+            node: 3,
+        },
+        26 => Body::Active {
+            node: 2,
+            x: 1,
+            binding: binding(1, 3),
+        },
+        27 => Body::Told {
+            node: 1,
+            action: first,
+            end: End::Commit,
+            part: Part::Naming,
+        },
+        28 => Body::Told {
+            node: 1,
+            action: first,
+            end: End::Abort,
+            part: Part::Server,
+        },
+        29 => Body::Prepared {
+            node: 3,
+            action: second,
+            role: Role::Store,
+        },
+        _ => Body::Done {
+            node: 1,
+            action: second,
+            role: Role::Names,
+            end: End::Commit,
+        },
+    }
+}
+
+// What lines of frames, nodes, objects and ends say.
+fn node_body(alloc: Global, place: usize) -> Result<Body, AllocError> {
+    let first = uid(1, 1, 1);
+    Ok(match place {
+        31 => Body::Sent {
+            frame: 8,
+            from: 0,
+            to: 1,
+            kind: FrameKind::Junk,
+        },
+        32 => Body::Got { frame: 1 },
+        33 => Body::Void { frame: 12 },
+        34 => Body::Dropped { frame: 8 },
+        35 => Body::Halted { node: 1 },
+        36 => Body::Up { node: 1, inc: 2 },
+        37 => Body::Armed { node: 2 },
+        38 => Body::Recovered {
+            node: 1,
+            action: first,
+        },
+        39 => Body::Refused { cause: 16 },
+        40 => Body::Entry {
+            x: 1,
+            version: 2,
+            servers: bytes(alloc, &[1])?,
+            stores: bytes(alloc, &[2, 3])?,
+        },
+        41 => Body::Copy {
+            node: 4,
+            x: 1,
+            version: 0,
+            writer: uid(0, 0, 0),
+            payload: bytes(alloc, &[0, 0, 0, 0, 0, 0, 0, 1])?,
+        },
+        42 => Body::Quiet { yes: true },
+        43 => Body::Quiet { yes: false },
+        44 => Body::Bad { line: 7 },
+        _ => Body::Limit {
+            which: Which::Frames,
+        },
+    })
+}
+
+// Calls of B on object 2 with their answers.
+const CALLS: [&str; 7] = [
+    "ok B 2 get = 00ff",
+    "ok B 2 add 1 = over",
+    "ok B 2 pop = none",
+    "ok B 2 put 1 2 = done",
+    "ok B 2 get = gone",
+    "ok B 2 create counter 7 = there",
+    "ok B 2 destroy = done",
+];
+
+// The operation at this place of the table.
+fn op_at(place: usize) -> Op {
+    match place {
+        0 | 4 => Op::Get,
+        1 => Op::Add(1),
+        2 => Op::Pop,
+        3 => Op::PutPair(1, 2),
+        5 => Op::Create(Value::Counter(Counter::new(7))),
+        _ => Op::Destroy,
+    }
+}
+
+// And what is answered.
+fn answer_at(alloc: Global, place: usize) -> Result<Answer, AllocError> {
+    Ok(match place {
+        0 => Answer::Text(bytes(alloc, &[0, 255])?),
+        1 => Answer::Over,
+        2 => Answer::Nothing,
+        4 => Answer::Gone,
+        5 => Answer::There,
+        _ => Answer::Done,
+    })
+}
+
+// The text of an answer, which is let go here alone.
+fn said(alloc: Global, answer: Answer) -> Result<Bytes, AllocError> {
+    answer_text(alloc, &answer)
+}
+
+// A call with its answer.
+fn call_at(alloc: Global, place: usize) -> Result<Body, AllocError> {
+    let answer = said(alloc, answer_at(alloc, place)?)?;
+    Ok(Body::Ok {
+        label: Label::new(b"B"),
+        x: 2,
+        op: op_at(place),
+        answer,
+    })
 }
 
 // The text of a line, which is let go here alone.
