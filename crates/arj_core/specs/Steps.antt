@@ -8,10 +8,16 @@ use Rattle.arj_core.specs.declared.output.Output.{Output}
 use Rattle.arj_core.specs.declared.output.Output.TheVariants as output
 use Rattle.arj_protocol.specs.Words.{Body, FrameKind, Message, read_message}
 use Rattle.arj_protocol.specs.Ask.{frame_kind}
-use Rattle.arj_protocol.specs.Effect.{Effect, Say, Send, Do, Stop}
+use Rattle.arj_protocol.specs.Effect.{Disk, Effect, Say, Send, Do, Stop}
 use Rattle.arj_protocol.specs.Step as protocol
 use Rattle.arj_protocol.specs.Step.{Node, Step}
 use Rattle.arj_protocol.specs.World.{Cut, count_works, cut}
+
+-- ---- what it is while it is down
+
+-- the node of this number, down with this disk
+abbrev pub down_with : ℕ → Disk → Node
+down_with n d = record { number = n; disk = d; live = None }
 
 -- ---- what it is asked
 

@@ -1,12 +1,13 @@
 // A node as the world sees it.
 ghost use Rattle.std.specs.Prelude.{◌≡◌, ◌≤◌, ℕ, List, Option, None, Some, Bool, IfOk, OnOk, IsErrOf, is_some};
-ghost use Rattle.arj_core.specs.Steps.{CountsStep, Did, WasCut, input_of};
+ghost use Rattle.arj_core.specs.Steps.{CountsStep, Did, WasCut, down_with, input_of};
 ghost use Rattle.arj_disk.specs.Counted.{counts};
 ghost use Rattle.arj_disk.specs.Disk.{CountsCall};
 ghost use Rattle.arj_disk.specs.FileMap.{FileMap};
 ghost use Rattle.arj_disk.specs.declared.slot.Slot.{Slot};
 ghost use Rattle.arj_journal.specs.ScriptForm.{HeaderInForm};
 ghost use Rattle.arj_journal.specs.declared.header.Header.{Header};
+ghost use Rattle.arj_protocol.specs.Effect as effect;
 ghost use Rattle.arj_protocol.specs.Step.{Node, first_node, is_idle, step};
 
 use crate::{Input, Outputs};
@@ -52,6 +53,9 @@ pub trait Core: Sized {
     /// With these files of its disk the core is this node of the protocol, of a run with this header.
     ghost stands: { Header → Self → FileMap → Node → Type 0 };
 
+    /// These files say this disk of the protocol, for the node of this number while it is down.
+    ghost rests: { Header → ℕ → FileMap → effect.Disk → Type 0 };
+
     /// A node over an empty disk, which is formatted: up, in incarnation 1, with the header's states and, at node 1,
     /// entries.
     fn format<D: Disk>(
@@ -66,6 +70,10 @@ pub trait Core: Sized {
         requires empty { (slot : Slot) → D.file disk.old slot ≡ None }
         ensures stands { IfOk result (λ core. stands header.now core (D.file disk.new) (first_node header.now node)) }
         ensures counts { CountsCall (counts D.Disk disk.old) (counts D.Disk disk.new) result CoreFault.Halted };
+
+    /// A node that is down, over what its disk has. The disk isn't called.
+    fn down(alloc: Global, node: u8, header: &journal::Header) -> Result<Self, AllocError>
+        ensures { IfOk result (λ core. (file : FileMap) (d : effect.Disk) → rests header.now node file d → stands header.now core file (down_with node d)) };
 
     /// Whether the node is up.
     fn is_up(&self) -> bool

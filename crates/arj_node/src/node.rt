@@ -35,6 +35,8 @@ impl<P: Parts + Drop> Core for NodeCore<P> {
 
     ghost stands = { λ header core file n. IsNode P.Parts header core file n };
 
+    ghost rests = { λ header n file d. P.rests header n file d };
+
     fn format<D: Disk>(
         alloc: Global,
         node: u8,
@@ -48,6 +50,16 @@ impl<P: Parts + Drop> Core for NodeCore<P> {
             number: node,
             roster,
             parts: Some(parts),
+        })
+    }
+
+    fn down(alloc: Global, node: u8, header: &journal::Header) -> Result<Self, AllocError> {
+        let roster = Roster::new(alloc, header)?;
+        Ok(NodeCore {
+            alloc,
+            number: node,
+            roster,
+            parts: None,
         })
     }
 

@@ -53,7 +53,7 @@ module _ {C D : Type 0} (c : core.Ghosts C) (d : disk.Ghosts D) where
   opened h w s =
       record {
         header = s.header;
-        start = s.start;
+        given = s.given;
         frames = s.frames;
         lines = s.lines;
         labels = s.labels;
@@ -69,7 +69,7 @@ module _ {C D : Type 0} (c : core.Ghosts C) (d : disk.Ghosts D) where
   as_it_is h w is s =
       record {
         header = s.header;
-        start = s.start;
+        given = s.given;
         frames = s.frames;
         lines = s.lines;
         labels = s.labels;

@@ -29,6 +29,7 @@ use Rattle.arj_world.proofs.Going.{as_well, plainly}
 use Rattle.arj_world.proofs.Stepping.{nodes_set}
 use Rattle.arj_world.proofs.Tests.{keeps_of}
 use Rattle.arj_start.specs.Limits.{most_frames}
+use Rattle.arj_start.specs.Start.{Start}
 
 set_same : {A : Type 0} (i : ℕ) (a : A) (items : List A) → slice_get items i ≡ Some a → slice_set items i a ≡ items
 set_same i a [] at = refl
@@ -72,7 +73,7 @@ module _ {C D : Type 0} (core : Ghosts C) (file : D → FileMap) where
     works = tt;
     stands = record {
       header = st.header;
-      start = st.start;
+      given = st.given;
       frames = st.frames;
       lines = (λ i. st.lines i ++ numbered (st.event i) (body.Armed node ∷ [])) ∙ sym said;
       labels = st.labels;
@@ -186,7 +187,7 @@ module _ {C D : Type 0} (core : Ghosts C) (file : D → FileMap) where
           Stands core file new v
       stands v header start frames lines labels arms event full over nodes = record {
         header = header ∙ st.header;
-        start = start ∙ st.start;
+        given = ap (λ (s : Start). s.given) start ∙ st.given;
         frames = frames;
         lines = lines;
         labels = labels ∙ st.labels;

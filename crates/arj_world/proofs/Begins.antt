@@ -129,7 +129,7 @@ module _ {C D : Type 0} (core : Ghosts C) (file : D → FileMap) where
   label_stands : (g : Giving) (h : Hand C D) (w : World) → Stands core file h w → Stands core file (with_label g h) (gives_label g w)
   label_stands g h w st = record {
     header = st.header;
-    start = st.start;
+    given = st.given;
     frames = st.frames;
     lines = st.lines;
     labels = λ i. insert_entry label_cmp (st.labels i) g.label (record { node = g.node; serial = is_serial g.kind });

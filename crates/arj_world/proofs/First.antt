@@ -18,17 +18,17 @@ all_at P k [] a all at = absurd (cc at)
 all_at P zero (x ∷ xs) a all at = let same : x ≡ a = cc at in subst P same (all 0 a (omega arith))
 all_at P (suc k) (x ∷ xs) a all at = all_at P k xs a (λ j d less. all (suc j) d (omega (arith, less))) at
 
-length_numbers : (count : ℕ) → length (numbers_to count) ≡ count
+pub length_numbers : (count : ℕ) → length (numbers_to count) ≡ count
 length_numbers zero = refl
 length_numbers (suc c) =
     let ih : length (numbers_to c) ≡ c = length_numbers c in omega (arith, ih, length-append (numbers_to c) (suc c ∷ []))
 
-before : {A : Type 0} (k : ℕ) (xs : List A) (a b : A) → slice_get (xs ++ a ∷ []) k ≡ Some b → k < length xs → slice_get xs k ≡ Some b
+pub before : {A : Type 0} (k : ℕ) (xs : List A) (a b : A) → slice_get (xs ++ a ∷ []) k ≡ Some b → k < length xs → slice_get xs k ≡ Some b
 before k [] a b at less = absurd (omega (arith, less))
 before zero (x ∷ xs) a b at less = at
 before (suc k) (x ∷ xs) a b at less = before k xs a b at (omega (arith, less))
 
-newest : {A : Type 0} (k : ℕ) (xs : List A) (a b : A) → slice_get (xs ++ a ∷ []) k ≡ Some b → length xs ≤ k → (k ≡ length xs) × (a ≡ b)
+pub newest : {A : Type 0} (k : ℕ) (xs : List A) (a b : A) → slice_get (xs ++ a ∷ []) k ≡ Some b → length xs ≤ k → (k ≡ length xs) × (a ≡ b)
 newest zero [] a b at most = (refl, cc at)
 newest (suc k) [] a b at most = absurd (cc at)
 newest zero (x ∷ xs) a b at most = absurd (omega (arith, most))
@@ -47,10 +47,22 @@ set_here i a b c [] was at = absurd (cc was)
 set_here zero a b c (x ∷ xs) was at = cc at
 set_here (suc i) a b c (x ∷ xs) was at = set_here i a b c xs was at
 
-within : {A : Type 0} (i : ℕ) (a : A) (items : List A) → slice_get items i ≡ Some a → i < length items
+pub within : {A : Type 0} (i : ℕ) (a : A) (items : List A) → slice_get items i ≡ Some a → i < length items
 within i a [] at = absurd (cc at)
 within zero a (x ∷ xs) at = omega arith
 within (suc i) a (x ∷ xs) at = let less : i < length xs = within i a xs at in omega (arith, less)
+
+-- a node that is made for each number stands at its place
+pub numbered_at : (f : ℕ → Node) (count i : ℕ) (n : Node) → slice_get (map f (numbers_to count)) i ≡ Some n → n ≡ f (i + 1)
+numbered_at f zero i n at = absurd (cc at)
+numbered_at f (suc c) i n at =
+    ⊎_elim (λ less. numbered_at f c i n (before i (map f (numbers_to c)) (f (suc c)) n split less))
+    (λ more. let last = newest i (map f (numbers_to c)) (f (suc c)) n split more in
+    sym last.1 ∙ ap f (omega (arith, last.0, length-map (numbers_to c) f, length_numbers c)))
+    (cases_lt i (length (map f (numbers_to c))))
+  where
+    split : slice_get (map f (numbers_to c) ++ f (suc c) ∷ []) i ≡ Some n
+    split = ap (λ ns. slice_get ns i) (sym (map-append f (numbers_to c) (suc c ∷ []))) ∙ at
 
 -- so many nodes are formatted, and the disks of the others are as they were
 pub record Formats {C D : Type 0} (core : Ghosts C) (file : D →
@@ -97,17 +109,6 @@ module _ {C D : Type 0} (core : Ghosts C) (file : D → FileMap) (header : Heade
       length cores ≤ k → All P first → slice_get disks k ≡ Some d → P d
   empty_next P cores disks k d so more all at = all_at P k first d all (sym (so.others k more) ∙ at)
 
-  numbered_at : (count i : ℕ) (n : Node) → slice_get (map (first_node header) (numbers_to count)) i ≡ Some n → n ≡ first_node header (i + 1)
-  numbered_at zero i n at = absurd (cc at)
-  numbered_at (suc c) i n at =
-      ⊎_elim (λ less. numbered_at c i n (before i (map (first_node header) (numbers_to c)) (first_node header (suc c)) n split less))
-      (λ more. let last = newest i (map (first_node header) (numbers_to c)) (first_node header (suc c)) n split more in
-      sym last.1 ∙ ap (first_node header) (omega (arith, last.0, length-map (numbers_to c) (first_node header), length_numbers c)))
-      (cases_lt i (length (map (first_node header) (numbers_to c))))
-    where
-      split : slice_get (map (first_node header) (numbers_to c) ++ first_node header (suc c) ∷ []) i ≡ Some n
-      split = ap (λ ns. slice_get ns i) (sym (map-append (first_node header) (numbers_to c) (suc c ∷ []))) ∙ at
-
   -- all are formatted
   pub formats_all : (cores : List C) (disks : List D) → Formats core file header first cores disks → length cores ≡ header.nodes →
       AreNodes core file header cores disks (map (first_node header) (numbers_to header.nodes))
@@ -115,6 +116,6 @@ module _ {C D : Type 0} (core : Ghosts C) (file : D → FileMap) (header : Heade
     cores_count = all;
     nodes_count = length-map (numbers_to header.nodes) (first_node header) ∙ length_numbers header.nodes;
     disks_count = omega (arith, so.reach, all);
-    numbers = λ i n at_node. ap (λ (m : Node). m.number) (numbered_at header.nodes i n at_node);
-    each = λ i c d n at_core at_disk at_node. subst (λ m. core.stands header c (file d) m) (sym (numbered_at header.nodes i n at_node)) (so.each i c d at_core at_disk);
+    numbers = λ i n at_node. ap (λ (m : Node). m.number) (numbered_at (first_node header) header.nodes i n at_node);
+    each = λ i c d n at_core at_disk at_node. subst (λ m. core.stands header c (file d) m) (sym (numbered_at (first_node header) header.nodes i n at_node)) (so.each i c d at_core at_disk);
   }

@@ -130,7 +130,7 @@ module _ {C D : Type 0} (core : Ghosts C) (file : D → FileMap) where
     frames : (w : World) → Stands core file old w → Stands core file next (change_frame k protocol.as_delivered (frame_of there.0) w)
     frames w st = record {
       header = st.header;
-      start = st.start;
+      given = st.given;
       frames = (λ i. set_place k (protocol.as_delivered (frame_of there.0)) (st.frames i)) ∙ sym (marked nets.as_delivered protocol.as_delivered k old.kept.net there.0 there.1 refl);
       lines = st.lines;
       labels = st.labels;
@@ -183,7 +183,7 @@ module _ {C D : Type 0} (core : Ghosts C) (file : D → FileMap) where
           as_well old.kept.header.nodes (protocol.lose k) lost (λ v. v) w (Stands core file next) (λ arms. ap (lose_frame k (with_arms arms w)) at)
           (plainly old.kept.header.nodes lost w (Stands core file next) (λ arms. refl) refl (record {
             header = st.header;
-            start = st.start;
+            given = st.given;
             frames = (λ i. set_place k (protocol.as_lost (frame_of s.0)) (st.frames i)) ∙ sym (marked nets.as_lost protocol.as_lost k old.kept.net s.0 s.1 refl);
             lines = (λ i. st.lines i ++ numbered (st.event i) (body.Dropped k ∷ [])) ∙ sym (said ∙ ap (λ o. old.journal ++ numbered old.kept.event (dropped_line k o)) is);
             labels = st.labels;
@@ -336,7 +336,7 @@ module _ {C D : Type 0} (core : Ghosts C) (file : D → FileMap) where
       (λ arms. λ i. if (st.full ∙ fits) i then with_arms arms w else says (body.Quiet (protocol.is_quiet w) ∷ []) (with_arms arms w))
       (plainly h.kept.header.nodes line w (Stands core file (record h { journal = journal })) (λ arms. refl) refl (record {
         header = st.header;
-        start = st.start;
+        given = st.given;
         frames = st.frames;
         lines = (λ i. st.lines i ++ numbered (st.event i) (body.Quiet (protocol.is_quiet w) ∷ [])) ∙ sym (said h.kept.header w.nodes ((keeps_of core file h w st).nodes));
         labels = st.labels;

@@ -9,6 +9,7 @@ pub mod Hands
 pub mod Begins
 pub mod Runs
 pub mod First
+pub mod Adopted
 pub mod Disks
 pub mod Counts
 pub mod Armed

@@ -31,7 +31,7 @@ module _ {C D : Type 0} (core : Ghosts C) (file : D → FileMap) where
   unarmed h w st =
       record {
         header = st.header;
-        start = st.start;
+        given = st.given;
         frames = st.frames;
         lines = st.lines;
         labels = st.labels;
@@ -127,7 +127,7 @@ module _ {C D : Type 0} (core : Ghosts C) (file : D → FileMap) where
   counted_stands h w st =
       record {
         header = st.header;
-        start = st.start;
+        given = st.given;
         frames = st.frames;
         lines = st.lines;
         labels = st.labels;
@@ -143,7 +143,7 @@ module _ {C D : Type 0} (core : Ghosts C) (file : D → FileMap) where
   keeps_uncounted k n w keeps =
       record {
         header = keeps.header;
-        start = keeps.start;
+        given = keeps.given;
         frames = keeps.frames;
         labels = keeps.labels;
         nodes = keeps.nodes;
@@ -159,7 +159,7 @@ module _ {C D : Type 0} (core : Ghosts C) (file : D → FileMap) where
     works = tt;
     stands = subst (Stands core file new) (ap (with_arms []) (sym (tested e (Some c) old w [] st tests))) (record {
       header = st.header;
-      start = st.start;
+      given = st.given;
       frames = st.frames;
       lines = (λ i. st.lines i ++ numbered (st.event i + 1) (body.Refused c ∷ [])) ∙ sym said;
       labels = st.labels;
@@ -210,7 +210,7 @@ module _ {C D : Type 0} (core : Ghosts C) (file : D → FileMap) where
             let h = (happened w st).stands in
             record {
               header = h.header;
-              start = h.start;
+              given = h.given;
               frames = h.frames;
               lines = (λ i. h.lines i ++ numbered (h.event i) (body.Limit which.Frames ∷ [])) ∙ sym said;
               labels = h.labels;

@@ -118,7 +118,7 @@ module _ {C D : Type 0} (core : Ghosts C) (file : D → FileMap) where
 
   -- what a node puts out, where the world is another one in its nodes alone
   pub put_stands : (node : ℕ) (n' : Node) (es : List Effect) (out : List Output) (old new : Hand C D) (w : World) (p : Put)
-      → Stands core file old w → new.kept.header ≡ old.kept.header → new.kept.labels ≡ old.kept.labels → new.kept.event ≡ old.kept.event
+      → Stands core file old w → new.kept.header ≡ old.kept.header → new.kept.labels ≡ old.kept.labels → new.kept.given ≡ old.kept.given → new.kept.event ≡ old.kept.event
       → map seen_of out ≡ seen es → record { frames = map frame_of new.kept.net; lines = new.journal; full = new.kept.full } ≡ p
       → p ≡ put_seen node old.kept.event (map seen_of out) (record {
         frames = map frame_of old.kept.net;
@@ -128,11 +128,11 @@ module _ {C D : Type 0} (core : Ghosts C) (file : D → FileMap) where
       })
       → AreNodes core file new.kept.header new.kept.cores new.disks (set_node node n' w).nodes →
       Stands core file new (put node es (set_node node n' w))
-  put_stands node n' es out old new w p st header labels event seen_so shown_is is nodes =
+  put_stands node n' es out old new w p st header labels given event seen_so shown_is is nodes =
       let all = shows node es out old.kept old.journal p seen_so is in
       record {
         header = st.header ∙ sym header;
-        start = st.start;
+        given = st.given ∙ sym given;
         frames = (λ i. frames_with (st.frames i) (sends node es)) ∙ sym all.0 ∙ sym (ap (λ (x : Put). x.frames) shown_is);
         lines = (λ i. st.lines i ++ numbered (st.event i) (bodies node (length (st.frames i)) es)) ∙ sym all.1 ∙ sym (ap (λ (x : Put). x.lines) shown_is);
         labels = st.labels ∙ sym labels;
@@ -182,7 +182,7 @@ module _ {C D : Type 0} (core : Ghosts C) (file : D → FileMap) where
       did = done old.kept.header n (st.nodes.each j c d n at_core at_disk there.1)
 
       after : Stands core file new (done_step (suc j) (step old.kept.header n i) w)
-      after = put_stands (suc j) (step old.kept.header n i).after (step old.kept.header n i).outs out old new w (put_of net journal full) st refl refl refl
+      after = put_stands (suc j) (step old.kept.header n i).after (step old.kept.header n i).outs out old new w (put_of net journal full) st refl refl refl refl
           (ap (map seen_of) did.outs.are ∙ did.outs.seen_so) refl shown_is
           (nodes_set old.kept.header old.kept.cores old.disks w.nodes j c c' d d' n (step old.kept.header n i).after st.nodes at_core at_disk there.1 did.node (step_number old.kept.header n i))
 
@@ -285,7 +285,7 @@ module _ {C D : Type 0} (core : Ghosts C) (file : D → FileMap) where
         disk = q.disk;
         live =
             None;
-      }) (halted_outs (suc j) q) (out ++ output.Say (body.Halted (suc j)) ∷ []) old new w (put_of net journal full) st refl refl refl
+      }) (halted_outs (suc j) q) (out ++ output.Say (body.Halted (suc j)) ∷ []) old new w (put_of net journal full) st refl refl refl refl
           (said_is ∙ ap (λ es. es ++ Said (body.Halted (suc j)) ∷ []) (ap (map seen_of) was.outs.are ∙ was.outs.seen_so) ∙ sym (seen_behind q.outs (body.Halted (suc j)))) refl puts
           (nodes_set old.kept.header old.kept.cores old.disks w.nodes j c c' d d' n (record n {
             disk = q.disk;

@@ -19,7 +19,6 @@ use Rattle.arj_net.specs.declared.net.Sent as net
 use Rattle.arj_net.specs.Net as nets
 use Rattle.arj_protocol.specs.Step.{Node, class_in, first_reason, is_idle}
 use Rattle.arj_protocol.specs.Tree.{at_place}
-use Rattle.arj_start.specs.Start.{Start}
 use Rattle.arj_protocol.specs.Words.{Label, Message, label_cmp, read_message}
 use Rattle.arj_protocol.specs.World as protocol
 use Rattle.arj_protocol.specs.World.{World, reads_whole}
@@ -37,6 +36,36 @@ refuses a p rest holds = ap (λ b. first_reason ((a, b) ∷ rest)) (sym holds)
 pub passes : (a : ℕ) (p : Bool) (rest : List (ℕ × Bool)) (o : Option ℕ) → p ≡ false → o ≡ first_reason rest →
     o ≡ first_reason ((a, p) ∷ rest)
 passes a p rest o fails later = later ∙ ap (λ b. first_reason ((a, b) ∷ rest)) (sym fails)
+
+-- ---- labels
+
+-- the label of an action that the run began
+pub label_passes : (l : Label) (w : World) → true ≡ protocol.is_known l w → false ≡ protocol.was_given l w →
+    None ≡ first_reason ((5, not (protocol.is_known l w)) ∷ (6, protocol.was_given l w) ∷ [])
+label_passes l w known given =
+    passes 5 (not (protocol.is_known l w)) ((6, protocol.was_given l w) ∷ []) None (ap not (sym known))
+    (passes 6 (protocol.was_given l w) [] None (sym given) refl)
+
+-- of one that had ended before it
+pub label_ended : (l : Label) (w : World) → true ≡ protocol.is_known l w → true ≡ protocol.was_given l w →
+    Some 6 ≡ first_reason ((5, not (protocol.is_known l w)) ∷ (6, protocol.was_given l w) ∷ [])
+label_ended l w known given =
+    passes 5 (not (protocol.is_known l w)) ((6, protocol.was_given l w) ∷ []) (Some 6) (ap not (sym known))
+    (refuses 6 (protocol.was_given l w) [] (sym given))
+
+-- of none
+pub label_refused : (l : Label) (w : World) → false ≡ protocol.is_known l w →
+    Some 5 ≡ first_reason ((5, not (protocol.is_known l w)) ∷ (6, protocol.was_given l w) ∷ [])
+label_refused l w known = refuses 5 (not (protocol.is_known l w)) ((6, protocol.was_given l w) ∷ []) (ap not (sym known))
+
+-- a label for a new action
+pub new_passes : (l : Label) (rest : List (ℕ × Bool)) (o : Option ℕ) (w : World) → false ≡ protocol.is_known l w →
+    o ≡ first_reason rest → o ≡ first_reason ((4, protocol.is_known l w) ∷ rest)
+new_passes l rest o w known later = passes 4 (protocol.is_known l w) rest o (sym known) later
+
+pub new_refused : (l : Label) (rest : List (ℕ × Bool)) (w : World) → true ≡ protocol.is_known l w →
+    Some 4 ≡ first_reason ((4, protocol.is_known l w) ∷ rest)
+new_refused l rest w known = refuses 4 (protocol.is_known l w) rest (sym known)
 
 -- ---- numbers of nodes
 
@@ -95,39 +124,16 @@ module _ {C : Type 0} (core : Ghosts C) where
 
   -- ---- labels
 
-  -- none was given before the run began
-  pub none_before : (l : Label) (k : Kept C) (w : World) → Keeps core k w → protocol.was_given l w ≡ false
-  none_before l k w keeps = ap (λ (s : Start). list_any (is_at (label_cmp l)) s.given) keeps.start
-
-  pub known_is : (l : Label) (b : Bool) (k : Kept C) (w : World) → Keeps core k w → b ≡ protocol.is_given l w → protocol.is_known l w ≡ b
-  known_is l b k w keeps is = (λ i. none_before l k w keeps i || protocol.is_given l w) ∙ sym is
-
-  -- the label of an action that the run began
-  pub label_passes : (l : Label) (k : Kept C) (w : World) → Keeps core k w → true ≡ protocol.is_given l w →
-      None ≡ first_reason ((5, not (protocol.is_known l w)) ∷ (6, protocol.was_given l w) ∷ [])
-  label_passes l k w keeps is =
-      passes 5 (not (protocol.is_known l w)) ((6, protocol.was_given l w) ∷ []) None (ap not (known_is l true k w keeps is))
-      (passes 6 (protocol.was_given l w) [] None (none_before l k w keeps) refl)
-
-  pub label_refused : (l : Label) (k : Kept C) (w : World) → Keeps core k w → false ≡ protocol.is_given l w →
-      Some 5 ≡ first_reason ((5, not (protocol.is_known l w)) ∷ (6, protocol.was_given l w) ∷ [])
-  label_refused l k w keeps is =
-      refuses 5 (not (protocol.is_known l w)) ((6, protocol.was_given l w) ∷ []) (ap not (known_is l false k w keeps is))
-
-  -- a label for a new action
-  pub new_passes : (l : Label) (rest : List (ℕ × Bool)) (o : Option ℕ) (k : Kept C) (w : World) → Keeps core k w →
-      false ≡ protocol.is_given l w → o ≡ first_reason rest → o ≡ first_reason ((4, protocol.is_known l w) ∷ rest)
-  new_passes l rest o k w keeps is later = passes 4 (protocol.is_known l w) rest o (known_is l false k w keeps is) later
-
-  pub new_refused : (l : Label) (rest : List (ℕ × Bool)) (k : Kept C) (w : World) → Keeps core k w → true ≡ protocol.is_given l w →
-      Some 4 ≡ first_reason ((4, protocol.is_known l w) ∷ rest)
-  new_refused l rest k w keeps is = refuses 4 (protocol.is_known l w) rest (known_is l true k w keeps is)
+  -- whether one of them was given before the run began
+  pub given_is : (l : Label) (b : Bool) (k : Kept C) (w : World) → Keeps core k w → b ≡ list_any (is_at (label_cmp l)) k.given →
+      b ≡ protocol.was_given l w
+  given_is l b k w keeps is = is ∙ ap (list_any (is_at (label_cmp l))) (sym keeps.given)
 
   pub keeps_armed : (k : Kept C) (w : World) (arms : List (ℕ × protocol.Arm)) → Keeps core k w → Keeps core k (with_arms arms w)
   keeps_armed k w arms keeps =
       record {
         header = keeps.header;
-        start = keeps.start;
+        given = keeps.given;
         frames = keeps.frames;
         labels = keeps.labels;
         nodes = keeps.nodes;
@@ -140,7 +146,7 @@ module _ {C D : Type 0} (core : Ghosts C) (file : D → FileMap) where
   pub keeps_of : (h : Hand C D) (w : World) → Stands core file h w → Keeps core h.kept w
   keeps_of h w st = record {
     header = st.header;
-    start = st.start;
+    given = st.given;
     frames = st.frames;
     labels = st.labels;
     nodes = record {

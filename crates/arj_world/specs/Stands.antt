@@ -4,20 +4,20 @@ use Rattle.arj_core.specs.declared.node.Core.{Ghosts}
 use Rattle.arj_disk.specs.FileMap.{FileMap}
 use Rattle.arj_journal.specs.declared.body.Line.{Line}
 use Rattle.arj_journal.specs.declared.header.Header.{Header}
-use Rattle.arj_start.specs.Start.{fresh}
 use Rattle.arj_net.specs.declared.net.Sent.{Sent}
 use Rattle.arj_protocol.specs.Step.{Node}
 use Rattle.arj_protocol.specs.Words.{Label}
 use Rattle.arj_protocol.specs.World.{World, Labelled}
 use Rattle.arj_world.specs.Wire.{frame_of}
 
--- the header, the cores, first that of node 1, the frames, the labels that were given, how many events were run, and whether
--- a frame didn't fit
+-- the header, the cores, first that of node 1, the frames, the labels that were given, those that were given before the run began,
+-- how many events were run, and whether a frame didn't fit
 pub record Kept (C : Type 0) : Type 0 where
   pub header : Header
   pub cores : List C
   pub net : List Sent
   pub labels : List (Label × Labelled)
+  pub given : List Label
   pub event : ℕ
   pub full : Bool
 
@@ -37,10 +37,10 @@ pub record AreSomeNodes {C : Type 0} (core : Ghosts C) (header : Header) (cores 
   pub each : (i : ℕ) (c : C) (n : Node) → slice_get cores i ≡ Some c → slice_get nodes i ≡ Some n →
       (file : FileMap) × core.stands header c file n
 
--- what is kept is what this world of the protocol has, with some files; it began as it was formatted
+-- what is kept is what this world of the protocol has, with some files
 pub record Keeps {C : Type 0} (core : Ghosts C) (k : Kept C) (w : World) : Type 0 where
   pub header : w.header ≡ k.header
-  pub start : w.start ≡ fresh
+  pub given : (let st = w.start in st.given) ≡ k.given
   pub frames : w.frames ≡ map frame_of k.net
   pub labels : w.labels ≡ k.labels
   pub nodes : AreSomeNodes core k.header k.cores w.nodes
@@ -56,11 +56,10 @@ pub record Hand (C D : Type 0) : Type 0 where
 abbrev pub hand : {C D : Type 0} → Kept C → List D → List Line → Hand C D
 hand k disks journal = record { kept = k; disks = disks; journal = journal }
 
--- A world with its disks and its journal is this world of the protocol, which began as it was formatted, before or after an event: no stop
--- is due in it.
+-- A world with its disks and its journal is this world of the protocol, before or after an event: no stop is due in it.
 pub record Stands {C D : Type 0} (core : Ghosts C) (file : D → FileMap) (h : Hand C D) (w : World) : Type 0 where
   pub header : w.header ≡ h.kept.header
-  pub start : w.start ≡ fresh
+  pub given : (let st = w.start in st.given) ≡ h.kept.given
   pub frames : w.frames ≡ map frame_of h.kept.net
   pub lines : w.lines ≡ h.journal
   pub labels : w.labels ≡ h.kept.labels

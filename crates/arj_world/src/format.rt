@@ -13,7 +13,7 @@ use arj_core::{Core, CoreFault};
 use arj_disk::{Disk, Rack};
 use arj_journal::Header;
 use std::alloc::Global;
-use std::collections::BTreeMap;
+use std::collections::{BTreeMap, BTreeSet};
 
 // Formats a node over its empty disk.
 #[tactic(auto, using(crate::proofs::Disks::moved_call, crate::proofs::Disks::stopped_at))]
@@ -64,6 +64,7 @@ impl<C: Core + Drop> World<C> {
             cores,
             wire: Wire::new(alloc),
             labels: BTreeMap::new(alloc),
+            given: BTreeSet::new(alloc),
         })
     }
 }

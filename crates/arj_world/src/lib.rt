@@ -2,7 +2,8 @@
 //!
 //! It stands on `arj_core` (a node), `arj_net` (frames), `arj_disk` (disks), the definitions of `arj_protocol` and the laws of
 //! events (`arj_law_parts/steps`). What it gives upward: a world that is formatted is the protocol's first world, and no disk was
-//! stopped in its format (`World::format`); and each event makes of it what the protocol makes of its world, with the stops that
+//! stopped in its format (`World::format`); over disks that an earlier run left it is the world of each start whose disks these are,
+//! each node down (`World::adopt`, `specs/First.antt`); and each event makes of it what the protocol makes of its world, with the stops that
 //! the disks made (`World::step`; `specs/Stands.antt`, `specs/Happens.antt`). What an event makes of the disks' arms, which lines
 //! tell of stops, and which lines an event owes or writes in their place, say `specs/Disks.antt`, `specs/Tells.antt` and
 //! `specs/Owns.antt`.
@@ -10,6 +11,7 @@
 //! will fall: `specs/Goes.antt` says how a world goes on then.
 #![tactic(auto)]
 
+mod adopt;
 mod delivery;
 mod events;
 mod fault;

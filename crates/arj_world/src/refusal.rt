@@ -56,11 +56,25 @@ impl<C: Core> World<C> {
         }
     }
 
-    // Whether a label was given.
+    // Whether a label was given in the run.
     fn is_given(&self, label: Label) -> bool
         ensures { (w : protocol.World) → Keeps C.Core self.now w → result ≡ protocol.is_given label w }
     {
         self.labels.contains_key(&label)
+    }
+
+    // Whether a label was given before the run began.
+    fn was_given(&self, label: Label) -> bool
+        ensures { (w : protocol.World) → Keeps C.Core self.now w → result ≡ protocol.was_given label w }
+    {
+        self.given.contains(&label)
+    }
+
+    // Whether a label was given, in the run or before it.
+    fn is_known(&self, label: Label) -> bool
+        ensures { (w : protocol.World) → Keeps C.Core self.now w → result ≡ protocol.is_known label w }
+    {
+        self.was_given(label) || self.is_given(label)
     }
 
     // Whether the header has an object.
@@ -79,31 +93,34 @@ impl<C: Core> World<C> {
         if !self.is_up(n) {
             return Some(2);
         }
-        if self.is_given(label) { Some(4) } else { None }
+        if self.is_known(label) { Some(4) } else { None }
     }
 
     fn inner_refusal(&self, label: Label, parent: Label) -> Option<u8>
         ensures { (w : protocol.World) → Keeps C.Core self.now w → result ≡ first_reason (reasons (events.BeginIn label parent) w) }
     {
-        if self.is_given(label) {
+        if self.is_known(label) {
             return Some(4);
         }
-        if self.is_given(parent) { None } else { Some(5) }
+        self.label_refusal(parent)
     }
 
     fn label_refusal(&self, label: Label) -> Option<u8>
         ensures { (w : protocol.World) → Keeps C.Core self.now w → result ≡ first_reason (reasons (events.Commit label) w) }
     {
-        if self.is_given(label) { None } else { Some(5) }
+        if !self.is_known(label) {
+            return Some(5);
+        }
+        if self.was_given(label) { Some(6) } else { None }
     }
 
     fn include_refusal(&self, label: Label, node: u32) -> Option<u8>
         ensures { (w : protocol.World) → Keeps C.Core self.now w → result ≡ first_reason (reasons (events.Include label 0 node) w) }
     {
-        if self.node_in(node).is_none() {
+        let Some(_n) = self.node_in(node) else {
             return Some(1);
-        }
-        if self.is_given(label) { None } else { Some(5) }
+        };
+        self.label_refusal(label)
     }
 
     fn frame_refusal(&self, frame: FrameNo) -> Option<u8>

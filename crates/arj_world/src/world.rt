@@ -13,11 +13,11 @@ use arj_core::{Core, CoreFault, Input, Outputs};
 use arj_disk::{Disk, Rack};
 use arj_journal::{Body, Header, Label, Lines};
 use std::alloc::{AllocError, Global};
-use std::collections::BTreeMap;
+use std::collections::{BTreeMap, BTreeSet};
 use std::marker::Model;
 
-/// All nodes of a run, 1 to 16, with the frames between them and the labels that were given. The disks stand apart, in a
-/// rack.
+/// All nodes of a run, 1 to 16, with the frames between them and the labels that were given, in the run or before it. The disks
+/// stand apart, in a rack.
 #[derive(Drop)]
 pub struct World<C> {
     pub(crate) alloc: Global,
@@ -26,6 +26,8 @@ pub struct World<C> {
     pub(crate) cores: Vec<C>,
     pub(crate) wire: Wire,
     pub(crate) labels: BTreeMap<Label, Labelled>,
+    // those that were given before the run began
+    pub(crate) given: BTreeSet<Label>,
 }
 
 impl<C> Model for World<C> {
@@ -35,7 +37,7 @@ impl<C> Model for World<C> {
 
     ghost Value = { Kept C };
 
-    ghost view = { λ w. record { header = w.header; cores = w.cores.items; net = w.wire.net; labels = w.labels.entries; event = w.wire.event; full = w.wire.full } };
+    ghost view = { λ w. record { header = w.header; cores = w.cores.items; net = w.wire.net; labels = w.labels.entries; given = w.given.keys; event = w.wire.event; full = w.wire.full } };
 
     ghost invariant = { λ w. (1 ≤ w.header.nodes) × (w.header.nodes ≤ 16) × (length w.cores.items ≡ w.header.nodes) × AreFew w.wire.net };
 }

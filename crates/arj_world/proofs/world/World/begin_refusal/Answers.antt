@@ -10,16 +10,16 @@ returns-then-not-is_up g c = λ w keeps.
     passes 1 (not (is_node c.args.node w)) ((2, not (is_up_at c.args.node w)) ∷ (4, is_known c.args.label w) ∷ []) (Some 2) (there g.C.Core c.args.node c.in-Some.n c.args.self.now w n.0 n.1 n.2 keeps)
     (refuses 2 (not (is_up_at c.args.node w)) ((4, is_known c.args.label w) ∷ []) (ap not (stands_up g.C.Core c.args.node c.in-Some.n c.args.self.now w n.0 n.1 n.2 keeps false c.if-not-is_up.ensures)))
 
-pub returns-then-is_given : goal.returns-then-is_given
-returns-then-is_given g c = λ w keeps.
+pub returns-then-is_known : goal.returns-then-is_known
+returns-then-is_known g c = λ w keeps.
     let n = c.in-Some.ensures in
     passes 1 (not (is_node c.args.node w)) ((2, not (is_up_at c.args.node w)) ∷ (4, is_known c.args.label w) ∷ []) (Some 4) (there g.C.Core c.args.node c.in-Some.n c.args.self.now w n.0 n.1 n.2 keeps)
     (passes 2 (not (is_up_at c.args.node w)) ((4, is_known c.args.label w) ∷ []) (Some 4) (ap not (stands_up g.C.Core c.args.node c.in-Some.n c.args.self.now w n.0 n.1 n.2 keeps true c.if-not-is_up.ensures))
-    (new_refused g.C.Core c.args.label [] c.args.self.now w keeps (c.if-is_given.ensures w keeps)))
+    (new_refused c.args.label [] w (c.if-is_known.ensures w keeps)))
 
-pub returns-else-is_given : goal.returns-else-is_given
-returns-else-is_given g c = λ w keeps.
+pub returns-else-is_known : goal.returns-else-is_known
+returns-else-is_known g c = λ w keeps.
     let n = c.in-Some.ensures in
     passes 1 (not (is_node c.args.node w)) ((2, not (is_up_at c.args.node w)) ∷ (4, is_known c.args.label w) ∷ []) None (there g.C.Core c.args.node c.in-Some.n c.args.self.now w n.0 n.1 n.2 keeps)
     (passes 2 (not (is_up_at c.args.node w)) ((4, is_known c.args.label w) ∷ []) None (ap not (stands_up g.C.Core c.args.node c.in-Some.n c.args.self.now w n.0 n.1 n.2 keeps true c.if-not-is_up.ensures))
-    (new_passes g.C.Core c.args.label [] None c.args.self.now w keeps (c.if-is_given.ensures w keeps) refl))
+    (new_passes c.args.label [] None w (c.if-is_known.ensures w keeps) refl))

@@ -37,7 +37,7 @@ returns-clause-stands g c =
     omega (arith, c.loop-node.invariant.count, c.loop-node-test.false, c.loop-node.auto.node-end) in
     record {
       header = refl;
-      start = refl;
+      given = sym c.new-3.ensures.empty;
       frames = ap (map frame_of) (sym c.new.ensures.net);
       lines = refl;
       labels = sym c.new-2.ensures.empty;

@@ -25,6 +25,7 @@ returns-clause-goes g c =
       net = c.send.new.self.net;
       labels =
           c.self.inside.labels.entries;
+      given = c.self.inside.given.keys;
       event = c.send.ensures.event i;
       full = c.send.new.self.full;
     }) c.args.rack.now c.send.new.journal)

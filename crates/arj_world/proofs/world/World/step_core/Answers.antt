@@ -52,6 +52,7 @@ returns-in-Ok-clause-steps g c =
             cores = cores';
             net = c.put.new.self.net;
             labels = c.self.inside.labels.entries;
+            given = c.self.inside.given.keys;
             event =
                 c.put.ensures.event i;
             full = c.put.new.self.full;
@@ -89,6 +90,7 @@ returns-in_ok-put-in-Err-Halted-clause-steps g c =
             net = c.put-in-Err-Halted.new.self.net;
             labels =
                 c.self.inside.labels.entries;
+            given = c.self.inside.given.keys;
             event = c.in_ok-put-in-Err-Halted.ensures.event i;
             full = c.put-in-Err-Halted.new.self.full;
           };
