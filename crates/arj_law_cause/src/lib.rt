@@ -1,22 +1,20 @@
 //! Why the journal says what it says, in its own words: what each event writes, what waits, and why each line stands.
 //!
-//! `follow/` has what events write, `waits/` what actions wait for, `rows/` answers with their causes, `operations/` of which
-//! operation an answer is, `kinds/` lines of one kind with their causes, `bindings/` what naming and servers have of bindings,
-//! `confirm/` why naming refuses commits, `votes/` what tops have written that stores are asked to prepare, `stores/` that they have
-//! prepared it where a top commits, `spelled/` that what is sent can be spelled, `told/` all that a journal says of why it is so, put
-//! together, `form/` which lines are in form, `rounds/` what quiesces answer and rounds leave.
+//! `follow/` has what events write, `waits/` what actions wait for, `rows/` answers with their causes, `operations/` of which operation
+//! an answer is, `kinds/` lines of one kind with their causes, `bindings/` what naming and servers have of bindings, `confirm/` why
+//! naming refuses commits, `votes/` what tops have written that stores are asked to prepare, `stores/` that they have prepared it where a
+//! top commits, `spelled/` that what is sent can be spelled, `told/` all that a journal says of why it is so, put together, `form/` which
+//! lines are in form, `rounds/` what quiesces answer and rounds leave.
 //!
-//! What it gives upward: `journals_follow_their_events`, `journals_tell_their_causes`; `tree_refusals_follow`,
-//! `object_refusals_follow`, `refusals_follow`, `dooms_have_causes`, `lines_follow`; `waiting_refusals_follow`,
-//! `answers_end_what_waits`, `commits_end_what_waits`, `giveups_lose_calls`; `conflicts_are_met`,
-//! `tables_agree_inside_events`, `answers_have_causes`, `answers_are_of_their_operations`; `frame_lines_have_causes`,
-//! `stops_have_causes`, `restarts_have_causes`, `limits_have_causes`, `openings_have_causes`, `plain_refusals_have_causes`,
-//! `denials_have_causes`, `commits_done_have_causes`, `quiesces_have_causes`, `recoveries_have_causes`, `ends_have_causes`,
-//! `shows_have_causes`, `locks_on_objects_are_free`, `locks_on_entries_are_free`, `bindings_have_causes`,
-//! `copies_have_causes`, `locks_lowered_have_causes`, `lost_commits_have_causes`, `giveups_have_causes`,
-//! `refused_commits_have_causes`, `preparations_have_causes`, `commits_are_called`, `exclusions_have_causes`;
-//! `messages_can_be_spelled`, `journals_are_in_form`; `journals_tell_how_nodes_are`, `quiesces_answer_who_waits`,
-//! `rounds_end_quiet`, `asked_alone_is_answered`, `events_send_few_frames`,
+//! What it gives upward: `journals_follow_their_events`, `journals_tell_their_causes`; `tree_refusals_follow`, `object_refusals_follow`,
+//! `refusals_follow`, `dooms_have_causes`, `lines_follow`; `waiting_refusals_follow`, `answers_end_what_waits`, `commits_end_what_waits`,
+//! `giveups_lose_calls`; `conflicts_are_met`, `tables_agree_inside_events`, `answers_have_causes`, `answers_are_of_their_operations`;
+//! `frame_lines_have_causes`, `stops_have_causes`, `restarts_have_causes`, `limits_have_causes`, `openings_have_causes`,
+//! `plain_refusals_have_causes`, `denials_have_causes`, `commits_done_have_causes`, `quiesces_have_causes`, `recoveries_have_causes`,
+//! `ends_have_causes`, `shows_have_causes`, `locks_on_objects_are_free`, `locks_on_entries_are_free`, `bindings_have_causes`,
+//! `copies_have_causes`, `locks_lowered_have_causes`, `lost_commits_have_causes`, `giveups_have_causes`, `refused_commits_have_causes`,
+//! `preparations_have_causes`, `commits_are_called`, `exclusions_have_causes`; `messages_can_be_spelled`, `journals_are_in_form`;
+//! `journals_tell_how_nodes_are`, `quiesces_answer_who_waits`, `rounds_end_quiet`, `asked_alone_is_answered`, `events_send_few_frames`,
 //! `few_events_meet_no_limit`.
 #![tactic(auto)]
 

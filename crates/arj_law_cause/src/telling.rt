@@ -2,8 +2,8 @@
 ghost use Rattle.arj_law_cause.specs.told.Runs.{JournalsTell, RunsFollow};
 
 /// In every run in form, wherever it begins and wherever disks stop, the journal says why it is so, in words of the header, the events and its
-/// own lines (`TellsItsCauses`): what each event writes and for what it is refused (`Follows`); that each line has its cause, but for a few
-/// kinds of which a part of it is known (`is_told_why`); which lines answer what waits; and what quiesces answer and rounds of them leave
+/// own lines (`TellsItsCauses`): what each event writes and for what it is refused (`Follows`); that each line has its cause, but for one
+/// kind of which a part of it is known (`is_told_why`); which lines answer what waits; and what quiesces answer and rounds of them leave
 /// (`TellsQuiesces`). It does nothing when it runs.
 pub fn journals_tell_their_causes()
     ensures runs { JournalsTell }

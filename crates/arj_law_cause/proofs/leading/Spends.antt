@@ -40,6 +40,7 @@ use Rattle.arj_law_runs.proofs.Terms.{end_tree_on}
 use Rattle.arj_protocol.specs.Commit.{first_of}
 use Rattle.arj_protocol.specs.Coord.{is_invoked_by}
 use Rattle.arj_law_cause.proofs.leading.Calls.{given_left, least, reply_left, step_left}
+use Rattle.arj_law_cause.proofs.leading.Kept.{OwnStep, UpStep, asked_doings, marked_path, marked_sent, same_doings, start_left}
 use Rattle.arj_law_cause.proofs.leading.Loads as loads
 use loads.{all_told, changed, count_in, few_but, few_in, lead, left_all, left_now, left_of_doing, machine_left, rested, steps_left, times}
 use Rattle.arj_law_cause.proofs.sending.Ordered.{IsOwnNow, IsSentUp, UpCoord, UpRecords, found_up}
@@ -105,14 +106,6 @@ module _ (n k hello own : ℕ) where
           (ap (λ (o : Option Doing). left_all n (Words.change_doing f (actor s.path) c o).doings) none) (two (steps_left s.at) few)
       by (Some d) found = less (load (goes_on s c).outs) (left (goes_on s c).part) (left_now n d.now) (steps_left s.at) (left c)
           (goes_spends s c d found) few
-
-  same_doings : (u : Uid) (e : CallEnd) (c : Coord) → (doomed_by u e c).doings ≡ c.doings
-  same_doings u (calls.Lost i true) c = refl
-  same_doings u (calls.Lost i false) c = refl
-  same_doings u (calls.Answered a) c = refl
-  same_doings u (calls.Included st) c = refl
-  same_doings u (calls.Conflict h m i) c = refl
-  same_doings u (calls.Changed i w) c = refl
 
   stepped_spends : (s : Steps) (t : CallStep) (c : Coord) (d : Doing) → doing_of (actor s.path) c ≡ Some d → d.now ≡ Calling s → (a : ℕ) →
       step_left t ≤ a + steps_left s.at → Spends a c (step_call s t c)
@@ -288,13 +281,6 @@ module _ (n k hello own : ℕ) where
 
   -- ---- commits
 
-  -- what a step asks, or tells, is of nodes in order
-  abbrev UpStep : CommitStep → Type 0
-  UpStep (Stays m) = ⊤
-  UpStep (Asks m) = AreUp (left_of m)
-  UpStep (Decides p) = AreUp p.sent
-  UpStep (Aborts why p) = ⊤
-
   abbrev pub asked : Machine → ℕ
   asked (Voting p ns) = times 2 n
   asked (Preparing p ns) = times 2 n
@@ -305,11 +291,6 @@ module _ (n k hello own : ℕ) where
   most (Asks m) = asked m + machine_left n m
   most (Decides p) = all_told n
   most (Aborts why p) = times 1 n
-
-  -- and is of this action
-  abbrev OwnStep : Uid → CommitStep → Type 0
-  OwnStep u (Decides p) = actor p.path ≡ u
-  OwnStep u s = ⊤
 
   asks_load : (p : Path) (req : ℕ) (m : Machine) → ((z : ℕ) (h : Head) (i : ℕ) → lead n z (request h (ask_of m i)) ≤ 1) →
       (ns : List ℕ) (c : Coord) →
@@ -330,10 +311,6 @@ module _ (n k hello own : ℕ) where
   machine_load (Confirming p) c up = loads.one_load n k hello own 1 1 (request (record { path = p.path; req = p.req }) (ask_of
       (Confirming p) 1))
       (λ z. omega arith)
-
-  asked_doings : (p : Path) (req : ℕ) (all : List (ℕ × Ask)) (c : Coord) → (asks_all p req all c).part.doings ≡ c.doings
-  asked_doings p req [] c = refl
-  asked_doings p req (a ∷ rest) c = asked_doings p req rest (asks_node p req a c).part
 
   -- in place of what the action was at
   step_spends : (u : Uid) (s : CommitStep) (intents : List (Uid × Intent)) (c : Coord) (d : Doing) → doing_of u c ≡ Some d → UpStep s →
@@ -482,14 +459,6 @@ module _ (n k hello own : ℕ) where
     where
       same : (a : ℕ) → a ≤ a
       same a = omega arith
-
-  marked_sent : (ns : List ℕ) (p : Plan) → (marks_stores ns p).sent ≡ p.sent
-  marked_sent [] p = refl
-  marked_sent (i ∷ ns) p = marked_sent ns (marks_store i p)
-
-  marked_path : (ns : List ℕ) (p : Plan) → (marks_stores ns p).path ≡ p.path
-  marked_path [] p = refl
-  marked_path (i ∷ ns) p = marked_path ns (marks_store i p)
 
   given_fits : (u : Uid) (m : Machine) → AreUp (let p = plan_of m in p.sent) → actor (let p = plan_of m in p.path) ≡ u →
       Fits u (machine_left n m) (commit.given_up m).step
@@ -644,10 +613,6 @@ module _ (n k hello own : ℕ) where
     where
       same : (a b : ℕ) → a ≡ b + (0 + 0) → 0 + a ≤ 0 + b
       same a b is = omega (arith, is)
-
-  start_left : (o : Option Known) (avoid : Words.Binding) → 2 + steps_left (Words.start_at o avoid) ≤ 10
-  start_left None avoid = omega arith
-  start_left (Some known) avoid = omega arith
 
   pub call_spends : (b : Branch) (x : ℕ) (o : Op) (c : Coord) → Spends 10 c (Words.call b.path x o c)
   call_spends b x o c = goes_free (Words.call_steps b.path x o (Words.next_req (actor b.path) c) (root_at (root_of b.path) c) c kept)

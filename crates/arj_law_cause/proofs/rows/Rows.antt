@@ -35,22 +35,18 @@ use Rattle.arj_model.specs.CauseAnswers.{conflict_caused, has_lock, includes_cau
 use Rattle.arj_model.specs.CauseAnswers.{meets_at_store}
 use Rattle.arj_model.specs.CauseAnswers.{mode_of_call, modes_on_entry, ok_caused, was_told}
 use Rattle.arj_journal.specs.ScriptForm.{HeaderInForm}
-use Rattle.arj_model.specs.Actions.{Placed, top_in}
+use Rattle.arj_model.specs.Actions.{Placed, root_in, top_in}
 use Rattle.arj_model.specs.CausePends.{called_at, is_pending, may_store, pends, pends_from}
 use Rattle.arj_model.specs.CauseAnswers as cause
 use Rattle.arj_law_parts.proofs.parts.Begun.{path_some}
 use Rattle.arj_law_runs.proofs.journal.{Models.in_later, Owners.acts_more, Ties.on_path}
-use Rattle.arj_model.specs.Actions.{root_in}
 use Rattle.arj_model.specs.CauseCopies.{had_both, has_entered_in, is_older, was_active_in, was_bound}
 use Rattle.arj_law_runs.proofs.calls.WholeRuns.{few_before}
 use Rattle.arj_law_runs.specs.calls.Bindings.{HasFewBindings, bindings_made}
-use Rattle.arj_model.specs.Refusals.{incarnation}
 use Rattle.arj_model.specs.CauseSpans.{Here, act_by, answered, asks_so, from_place, holds_in, is_call, is_call_of, is_include_of}
-use Rattle.arj_model.specs.CauseSpans.{nodes_of, same_frame}
-use Rattle.arj_model.specs.CauseSpans.{same_mode, same_op, same_pairs, same_value, was_sent}
-use Rattle.arj_model.specs.CauseSpans.{top_uids}
+use Rattle.arj_model.specs.CauseSpans.{nodes_of, same_frame, same_mode, same_op, same_pairs, same_value, top_uids, was_sent}
 use Rattle.arj_model.specs.Past.{Asked as AskedOf, label_of}
-use Rattle.arj_model.specs.Refusals.{answers_to, asks_by, has_ended, holds_of, last_asked, object_used}
+use Rattle.arj_model.specs.Refusals.{answers_to, asks_by, has_ended, holds_of, incarnation, last_asked, object_used}
 use Rattle.arj_model.specs.Table.{table}
 use Rattle.arj_law_cause.proofs.bindings.Active.{older_is}
 use Rattle.arj_law_cause.proofs.bindings.Asking.{BoundSo, IsAtSo, IsKeptSo, IsKnownSo, ReplySo}
@@ -61,9 +57,8 @@ use Rattle.arj_law_cause.proofs.bindings.Ones.{one_binding}
 use Rattle.arj_law_cause.proofs.bindings.Since.{AreLow, IsActiveIn, met_in}
 use Rattle.arj_law_cause.proofs.rows.Differences.{activate_is, bound_then, record_is, shown_at, shown_later, two_differ}
 use Rattle.arj_law_cause.proofs.rows.Differing.{Differs, says_differs}
-use Rattle.arj_law_cause.proofs.rows.Ending.{IsOther, IsOtherInc}
+use Rattle.arj_law_cause.proofs.rows.Ending.{IsOther, IsOtherInc, IsConflict, ByNaming, ByServer, ByStore}
 use Rattle.arj_law_cause.proofs.rows.Ending.{IsChange, OnActivate, OnInvoke, OnLive, OnMake, OnNote}
-use Rattle.arj_law_cause.proofs.rows.Ending.{IsConflict, ByNaming, ByServer, ByStore}
 use Rattle.arj_law_cause.proofs.rows.Holders.{any_later, off_path, one_found, one_passes, upper_from}
 use Rattle.arj_law_cause.proofs.rows.Entered.{GrantsBegan, entered_then}
 use Rattle.arj_law_cause.proofs.rows.Loading.{IsGrantOf, IsLocked, is_on_way}

@@ -10,12 +10,9 @@ use Rattle.arj_model.specs.CauseSpans.{Here, here_at}
 use Rattle.arj_model.specs.Caused.{has_cause}
 use Rattle.arj_model.specs.Past.{Past}
 use Rattle.arj_law_cause.specs.kinds.Tests.{is_changed_so}
-use Rattle.arj_law_cause.specs.rows.Lines.{answer_fits}
 
--- A line has its cause, by the header, the events and the lines before it. Of these kinds this much of it is known.
+-- A line has its cause, by the header, the events and the lines before it. Of one kind this much of it is known.
 abbrev pub is_told_why : Here → Body → Bool
-is_told_why h (body.Conflict l u mode n) = answer_fits h (body.Conflict l u mode n)
-is_told_why h (body.Changed l n d) = answer_fits h (body.Changed l n d)
 is_told_why h (body.Aborted l (cause.Changed n d)) = is_changed_so h (body.Aborted l (cause.Changed n d))
 is_told_why h b = has_cause h b
 

@@ -32,7 +32,7 @@ pub record TellsItsCauses (hd : Header) (st : Start) (es : List Event) (journal 
   -- The journal follows its events: an event is refused for its lowest cause, or as an action is doomed, which the journal dooms; else it
   -- writes its own lines, between them such as may stand there, each answer to what was asked, and its end.
   pub follows : Follows hd st es journal
-  -- each line has its cause, behind the lines before it, but for a few kinds of which a part of it is known
+  -- each line has its cause, behind the lines before it, but for one kind of which a part of it is known
   pub causes : Runs (TellsWhy hd) st es journal
   -- a line that answers a call or an include is to the one that its action waits for, and behind it that waits for none
   pub replies : Runs (RepliesStep hd) st es journal
