@@ -6,7 +6,6 @@
 //! are void and that no other fails to be meant, `rooms/` how far numbers rise that end.
 //!
 //! What it gives upward: `runs_show_one_outcome`, `runs_keep_the_promise`, `disks_of_idle_nodes_hold_the_last`,
-//! `only_overtaken_calls_wait`, `quiesces_leave_nodes_idle`, `rounds_leave_nodes_idle`,
 //! `requests_that_wait_are_answered`, `runs_go_on_where_others_ended`, `runs_go_on_behind_journals`,
 //! `journals_of_runs_are_readable`, `messages_are_void_exactly`, `what_is_sent_can_be_meant`, `numbers_have_room`,
 //! `lines_of_actions_are_in_form`.
@@ -26,9 +25,6 @@ pub use meanings::{messages_are_void_exactly, what_is_sent_can_be_meant};
 pub use numbers::{lines_of_actions_are_in_form, numbers_have_room};
 pub use outcomes::runs_show_one_outcome;
 pub use promise::runs_keep_the_promise;
-pub use settles::{
-    disks_of_idle_nodes_hold_the_last, only_overtaken_calls_wait, quiesces_leave_nodes_idle,
-    rounds_leave_nodes_idle,
-};
+pub use settles::disks_of_idle_nodes_hold_the_last;
 pub use starts::{runs_go_on_behind_journals, runs_go_on_where_others_ended};
 pub use waits::requests_that_wait_are_answered;

@@ -2,7 +2,7 @@
 use Rattle.arj_law_parts.proofs.Words
 use Words.{◌≡◌, ◌≤◌, ◌+◌, ◌∙◌, ℕ, true, List, [], ◌∷◌, ◌++◌, Option, Some, None, refl, sym, ap, subst, arith, nat_tests, length}
 use Words.{length-append, append_assoc, nat_le, option_map, AllByRecursion, Body, Header, Line, name}
-use Words.{journal_by, world_by, IsInForm}
+use Words.{journal_by, world_by}
 use Words.body
 use Rattle.arj_law_promise.proofs.readable.Rules.{CallFits, ShortBegin, line_keeps, object_fits}
 use Rattle.arj_law_promise.specs.readable.Readable.{NoAnswersDiffer, RunsAreReadable}

@@ -1,7 +1,7 @@
 -- Lines that say Uids of actions which began are in form: of each the number, the incarnation and the node fit their bytes.
 use Rattle.arj_law_parts.proofs.Words
 use Words.{◌≡◌, ◌≤◌, ◌<◌, ◌||◌, ℕ, List, [], ◌∷◌, Bool, true, false, refl, sym, subst, arith, inl, inr, AllByRecursion}
-use Words.{In, in_to, uid_eq, uid_is, Body, Header, Line, Uid, World, is_on, at_place, world_by, or_cases}
+use Words.{In, in_to, uid_eq, uid_is, Body, Header, Line, Uid, is_on, world_by}
 use Words.body
 use Words.ending
 use Rattle.arj_law_promise.proofs.Terms.{AreAddressed, IsNode, kept, moves_asked}
@@ -20,7 +20,7 @@ use Rattle.arj_law_runs.specs.addresses.Addresses.{SaysOf}
 use Rattle.arj_law_runs.specs.forms.Labels.{LabelsInForm}
 use Rattle.arj_law_runs.specs.forms.Numbers.{IsNumberedSo}
 use Rattle.arj_law_runs.specs.forms.World.{IsSaidInForm}
-use Rattle.arj_law_runs.specs.journal.Book.{Book, book, book_from, is_decided, new_book, turned}
+use Rattle.arj_law_runs.specs.journal.Book.{Book, book_from, is_decided, new_book, turned}
 use Rattle.arj_law_runs.specs.journal.Right.{AreRight, Right, has_act}
 use Rattle.arj_model.specs.Actions.{Act, acts}
 use Rattle.arj_promise.specs.Runs.{IsInForm, Run}

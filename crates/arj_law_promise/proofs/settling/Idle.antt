@@ -3,16 +3,18 @@ use Rattle.arj_law_parts.proofs.Words
 use Words.{◌≡◌, true, ◌∙◌, ◌++◌, ℕ, zero, suc, Bool, false, cond, List, [], ◌∷◌, Some, refl, sym, ap, subst, Body, Header, Line, Node}
 use Words.{first_reason, is_idle, World, counted, is_quiet, limited, node_numbers, numbered, quiesce, quiet_line, reasons, run_event}
 use Words.{run_unless, settle, tick_all, Move, all_moved, moved, world_by, Seen, AreQuiet, EndsQuiet, ◌&&◌, nat_le, slice_get, list_all}
-use Words.{and_parts}
+use Words.{◌⊎◌, None, AllByRecursion, and_parts, lowest_from, AreGivenUp, AreUp, NobodyWaits}
 use Words.body
 use Words.event
+use Rattle.arj_journal.specs.ScriptForm.{HeaderInForm}
 use Rattle.arj_law_promise.proofs.Terms
 use Terms.{IsGood, Holds, KeepsAsked, move_asked, moves_asked, AreAddressed, IsNode, kept, SettlesAll, over_before, asked_both, keeps_good}
 use Terms.{KnowsPrepared}
 use Rattle.arj_law_parts.proofs.moves.Moving.{moves_go_on}
 use Rattle.arj_law_promise.proofs.settling.{Settled.handlers_settle, Waiting.AllKnown, Waiting.all_answer, Waiting.all_kept}
-use Rattle.arj_law_promise.specs.settling.Settled.{QuiescesIdle, RoundsIdle}
 use Rattle.arj_law_runs.proofs.resting.{Fits.runs_few, GiveUps.over_front, GiveUps.round_settles, Quiets.move_settles}
+use Rattle.arj_promise.specs.Resting.{IsGiveUp}
+use Rattle.arj_promise.specs.Runs.{Run}
 use Rattle.arj_protocol.specs.World.{Asked, says}
 use Rattle.arj_protocol.specs.Words.which
 
@@ -128,7 +130,11 @@ line_tells m w is over last front n line = record {
 
 -- ---- in every run
 
-pub quiesces_idle : QuiescesIdle
+-- A quiesce that begins where nobody waits and no frame is open, at whose end every node is up, whatever stops fall, and in which no limit
+-- is met, leaves every node idle, and its line says so.
+pub quiesces_idle : (hd : Header) → HeaderInForm hd → (r : Run hd) (m : Move) → let w = world_by hd r in
+    lowest_from 1 w.frames ≡ None → NobodyWaits w
+    → m.asked.event ≡ event.Quiesce → (moved m w).over ≡ false → AreUp (moved m w) → EndsQuiet (moved m w)
 quiesces_idle hd form r m none nobody is last ups = ends_quiet hd m (world_by hd r)
     (move_asked hd (AreAddressed hd) (kept hd form) m (world_by hd r) (moves_asked hd (AreAddressed hd) (kept hd form) r)) is over last
     (move_settles hd (KnowsPrepared hd) s.0 (settles_less hd (KnowsPrepared hd) (λ M. KnowsPrepared hd M × IsGood M) (λ M q. q.0) s.1)
@@ -141,7 +147,12 @@ quiesces_idle hd form r m none nobody is last ups = ends_quiet hd m (world_by hd
     s : KeepsAsked hd (KnowsPrepared hd) × SettlesAll hd (KnowsPrepared hd)
     s = handlers_settle hd form
 
-pub rounds_idle : RoundsIdle
+-- So does the stated round: a quiesce, giveups of each action that waits then, and a second quiesce, where every node is up at the end of
+-- both, whatever stops fall, and no limit is met (or any giveups behind which nobody waits).
+pub rounds_idle : (hd : Header) → HeaderInForm hd
+    → (r : Run hd) (gs : List Move) (m n : Move) → let u = world_by hd r in let v = moved m u in let w = all_moved gs v in
+    m.asked.event ≡ event.Quiesce → AllByRecursion IsGiveUp gs → n.asked.event ≡ event.Quiesce
+    → AreUp v → AreGivenUp gs v ⊎ NobodyWaits w → (moved n w).over ≡ false → AreUp (moved n w) → EndsQuiet (moved n w)
 rounds_idle hd form r gs m n is all last ups nobody over_n ups_n =
     ends_quiet hd n (all_moved gs (moved m (world_by hd r))) addressed last over_w over_n
     (round_settles hd (λ M. KnowsPrepared hd M × AllKnown hd M) (asked_both hd (KnowsPrepared hd) (AllKnown hd) s.0 (all_kept hd form))

@@ -1,15 +1,18 @@
 -- After a quiesce only calls that are overtaken wait, in every run, and whoever else waited was answered.
 use Rattle.arj_law_parts.proofs.Words
-use Words.{◌≡◌, ℕ, true, false, [], Some, sym, ◌∙◌, ap, subst, inl, inr, ⊎_elim, ◌&&◌, nat_le, Header, Uid, Machine, left_of}
+use Words.{◌≡◌, ◌⊎◌, ℕ, true, false, [], Some, sym, ◌∙◌, ap, subst, inl, inr, ⊎_elim, ◌&&◌, nat_le, Header, Uid, Machine, left_of}
 use Words.{Committing, Coord, Doing, doing_of, World, is_node, moved, world_by, Seen, see, StillWaits, coord_in, WaitsOvertaken, is_empty}
+use Words.{at_place, is_waiting_now, Move, AreUp, HasAnswer}
+use Words.event
 use Rattle.arj_law_promise.proofs.Terms
 use Terms.{HeaderInForm, IsNumbered, all_keep, IsGood, Holds, KeepsAsked, keeps_asked, move_asked, moves_asked, AnswersWaits, over_before}
 use Terms.{asked_both, keeps_good, WaitsAreKnown}
 use Rattle.arj_law_promise.proofs.settling.{ListingRuns.ListsAreKnown, ListingRuns.lists_keep, Stored.loads_given}
 use Rattle.arj_law_promise.proofs.waiting.{Gives.at_of, Gives.known_give_by, Keeping.waits_keep, Untold.its_up}
-use Rattle.arj_law_promise.specs.settling.Overtaken.{QuiescesAnswerTheRest, RunsLeaveOvertaken}
 use Rattle.arj_law_runs.proofs.resting.{Ended.same_waits, PlainRuns.quiesces_answer_or_leave, Quiesces.run_answers}
 use Rattle.arj_law_runs.specs.resting.Rounds.{WaitOvertaken}
+use Rattle.arj_promise.specs.Runs.{Run}
+use Rattle.arj_promise.specs.Waiting.{OnlyOvertakenWait}
 
 -- a commit that waits waits for some node
 none_left : (M : Seen) → IsGood M → (k : ℕ) (c : Coord) (u : Uid) (q : Doing) (m : Machine) → coord_in (M.nodes k) ≡ Some c →
@@ -32,7 +35,9 @@ all_kept hd form =
 pub all_answer : (hd : Header) → HeaderInForm hd → (P : Seen → Type 0) → ((M : Seen) → P M → AllKnown hd M) → AnswersWaits hd P
 all_answer hd form P to = known_give_by hd form P (λ M p. (to M p).0) (loads_given hd P (λ M p. (to M p).1))
 
-pub runs_leave_overtaken : RunsLeaveOvertaken
+-- At whose end every node is up, whatever stops fall, and in which no limit is met.
+pub runs_leave_overtaken : (hd : Header) → HeaderInForm hd → (r : Run hd) (m : Move) → let w = world_by hd r in
+    m.asked.event ≡ event.Quiesce → (moved m w).over ≡ false → AreUp (moved m w) → OnlyOvertakenWait (moved m w)
 runs_leave_overtaken hd form r v is last ups k c u q node found does waits =
     ⊎_elim (λ s. s) (λ m. absurd (none_left (see after.sent (moved v (world_by hd r))) (let p = after.holds in
     p.1) k c u q m.0 found does m.1 m.2)) (answer k c u q node found does waits)
@@ -50,7 +55,10 @@ runs_leave_overtaken hd form r v is last ups k c u q node found does waits =
     answer = run_answers hd (AllKnown hd) kept (all_answer hd form P (λ M p. p.0)) r v is (over_before v (world_by hd r) last) last ups
 
 -- whoever waited as it began waits so, or was answered
-pub quiesces_answer_the_rest : QuiescesAnswerTheRest
+pub quiesces_answer_the_rest : (hd : Header) → HeaderInForm hd → (r : Run hd) (m : Move) (k : ℕ) (c : Coord) (u : Uid) (q : Doing) →
+    let w = world_by hd r in m.asked.event ≡ event.Quiesce → (moved m w).over ≡ false → AreUp (moved m w)
+    → is_node k w ≡ true → coord_in (at_place k w.nodes) ≡ Some c → doing_of u c ≡ Some q → is_waiting_now q.now ≡ true →
+    let v = moved m w in WaitsOvertaken v k u q ⊎ HasAnswer q w.lines v.lines
 quiesces_answer_the_rest hd form r v k c u q is last ups node found does waits = ⊎_elim (λ still. inl (overtaken still)) (λ answer.
     inr answer) (quiesces_answer_or_leave hd r v k c u q is (over_before v (world_by hd r) last) (ups k there) found does waits)
   where

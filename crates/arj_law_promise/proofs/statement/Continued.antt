@@ -1,7 +1,6 @@
 -- A run that goes on behind a journal keeps the promise of both together.
 use Rattle.arj_law_parts.proofs.Words
-use Words.{List, subst, ◌<◌, ◌≡◌}
-use Rattle.std.specs.List.{AllByRecursion}
+use Words.{List, subst, ◌≡◌}
 use Rattle.arj_journal.specs.declared.body.Line.{Line}
 use Rattle.arj_journal.specs.declared.header.Header.{Header}
 use Rattle.arj_law.proofs.{JoinedBook.book_join, JoinedLast.clean_join, JoinedOrder.serial_both}
@@ -12,7 +11,7 @@ use Rattle.arj_law_serial.proofs.joint.{BookRuns.runs_are_called, DisksJoined.jo
 use Rattle.arj_model.specs.Clean.{CleanFrom}
 use Rattle.arj_model.specs.Keeping.{KeepsTheBook}
 use Rattle.arj_model.specs.Last.{first_values}
-use Rattle.arj_model.specs.Serial.{Serial, Values}
+use Rattle.arj_model.specs.Serial.{Serial}
 use Rattle.arj_promise.specs.Excluded.{DisksAreInTimeFrom}
 use Rattle.arj_promise.specs.Promise.{KeepsThePromise}
 use Rattle.arj_promise.specs.Runs.{IsInForm, Run, journal_by, world_by}

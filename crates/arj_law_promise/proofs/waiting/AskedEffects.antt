@@ -1,7 +1,7 @@
 -- What nodes put out, one effect after another: what was asked stays asked, and what is said of bindings stays so.
 use Rattle.arj_law_parts.proofs.Words
 use Words.{ℕ, Bool, List, None, Option, Some, [], ap, arith, cond, eqb-true, false, inl, inr, map, refl, subst, sym, true}
-use Words.{⊎_elim, ◌++◌, ◌+◌, ◌==◌, ◌∙◌, ◌∷◌, ◌≡◌, ◌≢◌, ◌≤◌, ◌⊎◌, ⊤, AllByRecursion, Asked, Binding, Body}
+use Words.{⊎_elim, ◌++◌, ◌==◌, ◌∙◌, ◌∷◌, ◌≡◌, ◌≢◌, ◌≤◌, ◌⊎◌, ⊤, AllByRecursion, Asked, Binding, Body}
 use Words.{Head, Header, Kind, Label, Message, ObjectState, Path, Uid, asks, Reply, answers, top_of}
 use Words.{again_all, heard, Abort, Commit, Disk, Do, Effect, Look, Pair, Prepare, PutInc, PutIntent}
 use Words.{RemoveIntent, Say, Send, Stop, stopped, worked, acked, answer_query, tick_outs, Naming, Parts}

@@ -4,12 +4,12 @@ use Words.{ℕ, node_by, world_from}
 use Words.{Bool, List, None, Option, Some, [], ap, arith, cond, false, inl, inr, length, map, refl, subst, sym, true}
 use Words.{◌++◌, ◌+◌, ◌==◌, ◌∙◌, ◌∷◌, ◌≡◌, ◌≢◌, ◌≤◌, ◌⊎◌, option_map, ⊤, AllByRecursion, object, Ask, Asked, Binding, Body}
 use Words.{BoundReply, Head, Header, Kind, Label, Message, ObjectState, Path, Uid, asks, Reply, answers, asked_by, response, top_of}
-use Words.{again_all, begin_action, heard, waits_for_call, Disk, Do, Effect, Look, Prepare, PutInc}
+use Words.{again_all, begin_action, heard, waits_for_call, Disk, Do, Effect, Look, PutInc}
 use Words.{Say, Send, Served, held_at, stopped, acked, answer_query, tick_outs, Naming, Handled, Parts, Took}
 use Words.{Void, answer_is_meant, asked_is_meant, handle, handle_ask, holders, if_naming, is_loaded_for, is_loaded_in, is_meant}
 use Words.{query_about, reply_is_meant, sends_answer, served, with_coord, with_naming, Server, Input, Node, acts as acts_of}
 use Words.{numbers_to, parent_of, parts_in, refusal_up, restart_outs, tolds_again, at_place, Labelled}
-use Words.{numbered, Post, Seen, see, At, AtActivate}
+use Words.{Post, Seen, see, At, AtActivate}
 use Words.{AtBind, AtInvoke, AtLoad, AtNote, Steps, IsSaid, Calling, Coord, Doing, doing_of, and_parts, uid_is, confirm}
 use Words.{Named, at_number, is_serial}
 use Words.ask
@@ -21,7 +21,7 @@ use Words.body
 use Rattle.arj_law_promise.proofs.Terms
 use Terms.{IsAtStarts, disk_by, first_up}
 use Terms.{Action, paths_of, IsGoodCoord, IsTree, begun_tree, IsGoodOf, IsUp}
-use Terms.{good_coord, it, own_of_disk, tops_of_disk, other_number, is_act, In, at, down, given, posted, up, Up, Walks}
+use Terms.{good_coord, it, own_of_disk, tops_of_disk, other_number, is_act, In, at, down, given, up, Up, Walks}
 use Terms.{halted, some_is, all_map, KeepsGiven, node_here, Claims, HaveForms, IsAnsweredBy, MadeWasSaid}
 use Terms.{ReplyWasAsked, ServerWasAsked, StandsIn, StepsNamed, WasMade, WasNamed, WereAsked, AllSilent, restart_silent, acked_so, acts_so}
 use Terms.{again_so, heard_so, query_so, tolds_so, AllSo, SendsSo, so_both, BindsAreKnown, AreAsked, RequestsAreKnown, IsOfStep, Place}
@@ -42,7 +42,7 @@ use waiting.Serving.{AllSend, AnswerSo, IsKeptIn, message_served, quiet_silent, 
 use waiting.Standing.{Counts, Goes, MakeStands, bind_stands, confirm_goes, goes_same, hello_goes, note_goes, told_goes}
 use Rattle.arj_law_promise.specs.waiting.Asked.{IsPlaced, StandsAt}
 use Rattle.arj_law_runs.proofs.kept.Starts.{first_at}
-use Rattle.arj_law_promise.proofs.waiting.AskedEffects.{tree, its_coord, heard_quiet, acked_quiet, query_quiet, acts_quiet, tick_quiet}
+use Rattle.arj_law_promise.proofs.waiting.AskedEffects.{heard_quiet, acked_quiet, query_quiet, acts_quiet, tick_quiet}
 use Rattle.arj_law_promise.proofs.waiting.AskedEffects.{PartsSo, others_of, own_of, AreSo, back, so_more, quiet_asked, Fine, Made, walk}
 use Rattle.arj_law_promise.proofs.waiting.AskedEffects.{walk_lines, of_incs, NamingGoes, start_made, start_inc, start_placed, stop_so}
 
