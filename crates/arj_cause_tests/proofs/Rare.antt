@@ -57,6 +57,43 @@ aborted_changed_bind = run
 aborted_changed_bind_has_causes : lacking aborted_changed_bind ≡ []
 aborted_changed_bind_has_causes = refl
 
+-- a vote finds the server in a later incarnation than the constituent before had called it in
+abbrev pub aborted_changed_unit : Run
+aborted_changed_unit = run
+    (nodes 2 (object_line 1 (value.Counter 0) (2 ∷ []) (1 ∷ []) ∷ []))
+    ((event.Serial (l 83) 1, body.Began (l 83) kind.Serial (u 1 1 1) None ∷ [])
+    ∷ (event.BeginIn (l 67) (l 83), body.Began (l 67) kind.Constituent (u 1 1 2) (Some (l 83)) ∷ [])
+    ∷ (
+      event.Call (l 67) 1 op.Get,
+      body.Granted 1 (u 1 1 2) (u 0 1 1) Write ∷ body.Bound 1 (b 1 1) 2 ∷ body.Sent 1 1 2 frame.Activate ∷ [],
+    )
+    ∷ (
+      event.Settle,
+      body.Got 1 ∷ body.Active 2 1 (b 1 1) ∷ body.Sent 2 2 1 frame.Activated ∷ body.Got 2 ∷ body.Lowered 1 (u 1 1 2) (u 0 1 1)
+          ∷ body.Sent 3 1 2 frame.Invoke ∷ body.Got 3 ∷ body.Granted 2 (u 1 1 2) (u 0 0 1) Read ∷ body.Sent 4 2 1 frame.Invoked
+          ∷ body.Got 4 ∷ body.Ok (l 67) 1 op.Get (codes "0") ∷ [],
+    )
+    ∷ (event.Commit (l 67), body.Committing (l 67) ∷ body.Sent 5 1 2 frame.Vote ∷ [])
+    ∷ (
+      event.Settle,
+      body.Got 5 ∷ body.Sent 6 2 1 frame.Voted ∷ body.Got 6 ∷ body.Committed (l 67) ∷ body.Sent 7 1 2 frame.Told
+          ∷ body.Told 1 (u 1 1 2) Commit part.Naming ∷ body.Got 7 ∷ body.Told 2 (u 1 1 2) Commit part.Server ∷ [],
+    )
+    ∷ (event.Crash 2, body.Halted 2 ∷ [])
+    ∷ (event.Restart 2, body.Up 2 2 ∷ body.Sent 8 2 1 frame.Hello ∷ [])
+    ∷ (event.Settle, body.Got 8 ∷ [])
+    ∷ (event.BeginIn (l 68) (l 83), body.Began (l 68) kind.Constituent (u 1 1 3) (Some (l 83)) ∷ [])
+    ∷ (event.Commit (l 68), body.Committing (l 68) ∷ body.Sent 9 1 2 frame.Vote ∷ [])
+    ∷ (
+      event.Settle,
+      body.Got 9 ∷ body.Sent 10 2 1 frame.Voted ∷ body.Got 10 ∷ body.Aborted (l 68) (cause.Changed 2 (difference.Inc 1 2))
+          ∷ body.Sent 11 1 2 frame.Told ∷ body.Got 11 ∷ [],
+    )
+    ∷ [])
+
+aborted_changed_unit_has_causes : lacking aborted_changed_unit ≡ []
+aborted_changed_unit_has_causes = refl
+
 -- naming restarts behind a commit that is called
 abbrev pub restarted_naming : Run
 restarted_naming = run

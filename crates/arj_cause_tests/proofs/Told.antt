@@ -1,6 +1,6 @@
 -- What each field of a journal's causes, and of its form, refuses: a line of an event behind those before it, and lines of whole runs
 -- that are changed.
-use Rattle.std.specs.Prelude.{◌≡◌, ◌++◌, ◌<◌, ◌^◌, refl, ℕ, List, [], ◌∷◌, Bool, codes}
+use Rattle.std.specs.Prelude.{◌≡◌, ◌++◌, ◌<◌, ◌^◌, refl, ℕ, List, [], ◌∷◌, Bool, None, codes}
 use Rattle.std.proofs.Common.{arith}
 use Rattle.arj_base.specs.declared.mode.Mode.TheVariants.{Exclude, Read, Write}
 use Rattle.arj_base.specs.declared.mode.End.TheVariants.{Commit}
@@ -11,6 +11,7 @@ use Rattle.arj_journal.specs.declared.body.Body.TheVariants as body
 use Rattle.arj_journal.specs.declared.body.Cause.TheVariants as cause
 use Rattle.arj_journal.specs.declared.body.Difference.TheVariants as difference
 use Rattle.arj_journal.specs.declared.body.FrameKind.TheVariants as frame
+use Rattle.arj_journal.specs.declared.body.Kind.TheVariants as kind
 use Rattle.arj_journal.specs.declared.body.Role.TheVariants as role
 use Rattle.arj_journal.specs.declared.body.Which.TheVariants as which
 use Rattle.arj_journal.specs.declared.event.Event.TheVariants as event
@@ -23,16 +24,15 @@ use Rattle.arj_law_cause.specs.kinds.Kinds.{is_found, is_got, is_granted_entry, 
 use Rattle.arj_law_cause.specs.kinds.Kinds.{is_lock_lowered, is_lost_commit, is_met_abort, is_old_abort, is_opening, is_prepared}
 use Rattle.arj_law_cause.specs.kinds.Kinds.{is_quiet, is_sent}
 use Rattle.arj_law_cause.specs.kinds.Kinds.{is_up, is_void}
-use Rattle.arj_law_cause.specs.kinds.Rows.{row, tested}
-use Rattle.arj_law_cause.specs.kinds.Tests.{is_changed_so}
+use Rattle.arj_law_cause.specs.kinds.Rows.{row}
 use Rattle.arj_law_cause.specs.rows.Lines.{answer_fits}
 use Rattle.arj_law_cause.specs.waits.replies.Ends.{RepliesStep}
 use Rattle.arj_cause_tests.proofs.Words.{Run, after, b, end_from, instead, l, nodes, object_line, of_other_event, run, u, without}
 use Rattle.arj_cause_tests.proofs.Worked.{conflict, exclusion, inclusion, lost_lock, naming_stopped, nested_abort, no_store_left}
 use Rattle.arj_cause_tests.proofs.Worked.{rebinding}
 use Rattle.arj_cause_tests.proofs.Worked.{stop_at_decision_done}
-use Rattle.arj_cause_tests.proofs.Rare.{aborted_changed_bind, aborted_conflict, aborted_lost, aborted_old, changed_bind_naming}
-use Rattle.arj_cause_tests.proofs.Rare.{restarted_naming}
+use Rattle.arj_cause_tests.proofs.Rare.{aborted_changed_bind, aborted_changed_unit, aborted_conflict, aborted_lost, aborted_old}
+use Rattle.arj_cause_tests.proofs.Rare.{changed_bind_naming, restarted_naming}
 use Rattle.arj_cause_tests.proofs.Rarer.{changed_bind_server, changed_inc_naming, changed_inc_server, conflict_pending, conflict_unsaid}
 use Rattle.arj_cause_tests.proofs.Rarer.{committed_unsaid, excluded_pending}
 use Rattle.arj_cause_tests.proofs.WrongEvents.{begins, two_nodes}
@@ -57,9 +57,6 @@ abbrev failing : (Here → Body → Bool) → Run → List ℕ
 failing test r = failing_from test r.header nothing_yet r.wrote
 
 -- those of one kind that lack their cause
-abbrev changed_fits : Here → Body → Bool
-changed_fits = tested is_changed_so (λ h. is_changed_abort)
-
 abbrev failing_of : (Body → Bool) → Run → List ℕ
 failing_of of r = failing (row (λ h. of)) r
 
@@ -362,52 +359,72 @@ old_so : failing_of is_old_abort aborted_old ≡ []
 old_so = refl
 
 -- `aborted` with `changed`, of a server: another incarnation than it has, its own twice, no answer, and one of a later life
-voted_later : failing changed_fits (instead 25 (body.Aborted (l 65) (cause.Changed 2 (difference.Inc 1 3))) lost_lock) ≡ 25 ∷ []
+voted_later : failing_of is_changed_abort (instead 25 (body.Aborted (l 65) (cause.Changed 2 (difference.Inc 1 3))) lost_lock) ≡ 25 ∷ []
 voted_later = refl
 
-voted_same : failing changed_fits (instead 25 (body.Aborted (l 65) (cause.Changed 2 (difference.Inc 2 2))) lost_lock) ≡ 25 ∷ []
+voted_same : failing_of is_changed_abort (instead 25 (body.Aborted (l 65) (cause.Changed 2 (difference.Inc 2 2))) lost_lock) ≡ 25 ∷ []
 voted_same = refl
 
-voted_silent : failing changed_fits (instead 23 (body.Sent 7 2 1 frame.Invoked) lost_lock) ≡ 25 ∷ []
+voted_silent : failing_of is_changed_abort (instead 23 (body.Sent 7 2 1 frame.Invoked) lost_lock) ≡ 25 ∷ []
 voted_silent = refl
 
-voted_after : failing changed_fits (instead 17 (body.Up 2 3) lost_lock) ≡ 25 ∷ []
+voted_after : failing_of is_changed_abort (instead 17 (body.Up 2 3) lost_lock) ≡ 25 ∷ []
 voted_after = refl
 
 -- of naming: another node, and bindings, of which its answer to a Confirm says nothing
-confirmed_other : failing changed_fits (instead 50 (body.Aborted (l 84) (cause.Changed 3 (difference.Inc 1 2))) restarted_naming) ≡ 50 ∷ []
+confirmed_other : failing_of is_changed_abort (instead 50 (body.Aborted (l 84) (cause.Changed 3 (difference.Inc 1 2))) restarted_naming) ≡ 50 ∷ []
 confirmed_other = refl
 
 confirmed_binding :
-    failing changed_fits (instead 50 (body.Aborted (l 84) (cause.Changed 1 (difference.Bind (b 1 1) (b 2 1)))) restarted_naming) ≡ 50 ∷ []
+    failing_of is_changed_abort (instead 50 (body.Aborted (l 84) (cause.Changed 1 (difference.Bind (b 1 1) (b 2 1)))) restarted_naming) ≡ 50 ∷ []
 confirmed_binding = refl
 
 -- the root had not entered, and the later incarnation comes first
-confirmed_unentered : failing changed_fits (instead 4 (body.Granted 1 (u 4 1 2) (u 0 1 1) Write) restarted_naming) ≡ 50 ∷ []
+confirmed_unentered : failing_of is_changed_abort (instead 4 (body.Granted 1 (u 4 1 2) (u 0 1 1) Write) restarted_naming) ≡ 50 ∷ []
 confirmed_unentered = refl
 
-confirmed_backwards : failing changed_fits (instead 50 (body.Aborted (l 84) (cause.Changed 1 (difference.Inc 2 1))) restarted_naming) ≡ 50 ∷ []
+confirmed_backwards : failing_of is_changed_abort (instead 50 (body.Aborted (l 84) (cause.Changed 1 (difference.Inc 2 1))) restarted_naming) ≡ 50 ∷ []
 confirmed_backwards = refl
 
 -- a server had no copy in the earlier incarnation; and of two copies the newer one comes first, or never became active
-voted_inactive : failing changed_fits (without 6 lost_lock) ≡ 24 ∷ []
+voted_inactive : failing_of is_changed_abort (without 6 lost_lock) ≡ 24 ∷ []
 voted_inactive = refl
 
-bound_backwards : failing changed_fits (instead 69 (body.Aborted (l 84) (cause.Changed 2 (difference.Bind (b 2 1) (b 1 1)))) aborted_changed_bind)
+bound_backwards : failing_of is_changed_abort (instead 69 (body.Aborted (l 84) (cause.Changed 2 (difference.Bind (b 2 1) (b 1 1)))) aborted_changed_bind)
     ≡ 69 ∷ []
 bound_backwards = refl
 
-bound_inactive : failing changed_fits (without 50 aborted_changed_bind) ≡ 68 ∷ []
+bound_inactive : failing_of is_changed_abort (without 50 aborted_changed_bind) ≡ 68 ∷ []
 bound_inactive = refl
 
+-- of an object that the unit uses: no call of it was answered, or of another object; and where a constituent before used it, that one hasn't
+-- committed, and is of another root
+voted_unused : failing_of is_changed_abort (without 15 lost_lock) ≡ 24 ∷ []
+voted_unused = refl
+
+voted_beside : failing_of is_changed_abort (instead 15 (body.Ok (l 65) 2 op.Get (codes "0")) lost_lock) ≡ 25 ∷ []
+voted_beside = refl
+
+unit_unused : failing_of is_changed_abort (without 16 aborted_changed_unit) ≡ 36 ∷ []
+unit_unused = refl
+
+unit_uncommitted : failing_of is_changed_abort (without 22 aborted_changed_unit) ≡ 36 ∷ []
+unit_uncommitted = refl
+
+unit_of_another : failing_of is_changed_abort (instead 31 (body.Began (l 68) kind.Top (u 1 1 3) None) aborted_changed_unit) ≡ 37 ∷ []
+unit_of_another = refl
+
 -- by their own runs they are so
-voted_so : failing changed_fits lost_lock ≡ []
+voted_so : failing_of is_changed_abort lost_lock ≡ []
 voted_so = refl
 
-bound_so : failing changed_fits aborted_changed_bind ≡ []
+bound_so : failing_of is_changed_abort aborted_changed_bind ≡ []
 bound_so = refl
 
-confirmed_so : failing changed_fits restarted_naming ≡ []
+unit_so : failing_of is_changed_abort aborted_changed_unit ≡ []
+unit_so = refl
+
+confirmed_so : failing_of is_changed_abort restarted_naming ≡ []
 confirmed_so = refl
 
 -- `found`: in no restart

@@ -34,7 +34,9 @@ pub mod Rising
 pub mod Runs
 pub mod Says
 pub mod Spans
+pub mod Survivors
 pub mod Ups
+pub mod Uses
 pub mod Using
 pub mod Versions
 pub mod Voting

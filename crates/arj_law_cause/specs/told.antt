@@ -1,4 +1,3 @@
 -- What every journal says of why it is so.
 pub mod Told
 pub mod Runs
-pub mod Lines

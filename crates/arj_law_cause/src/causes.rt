@@ -1,7 +1,6 @@
 // Rows of causes: lines of the world, and what nodes do.
 ghost use Rattle.arj_law_cause.specs.kinds.Kinds.{is_abort_done, is_armed, is_bare_abort, is_changed_abort, is_commit_done, is_committed, is_copy_shown, is_denial, is_dropped, is_entry_shown, is_excluded, is_found, is_got, is_granted_object, is_granted_entry, is_halted, is_limit, is_listed_abort, is_lost_commit, is_met_abort, is_node_given_up, is_old_abort, is_opening, is_plain_refusal, is_prepared, is_quiet, is_sent, is_told, is_up, is_void};
-ghost use Rattle.arj_law_cause.specs.kinds.Rows.{RowHolds, RowHoldsWhere, TestHolds};
-ghost use Rattle.arj_law_cause.specs.kinds.Tests.{is_changed_so};
+ghost use Rattle.arj_law_cause.specs.kinds.Rows.{RowHolds, RowHoldsWhere};
 
 /// In every run in form, wherever it begins and wherever disks stop, each line of a frame has its cause by the events and the lines before
 /// it, row by row: a frame that is sent has the next number and goes from a node that is up, or from nobody where the script hands over
@@ -112,16 +111,16 @@ pub fn giveups_have_causes()
 /// a state that a store refused as too late where the action changes the object, and the store answered its Prepare at a place of the span at
 /// which the object had the version that the store told, above zero, or a later one, by the committed tops that wrote it, counted from where
 /// the run began, and naming had come up again since the action's root first had a lock on the object's entry. It is aborted since something
-/// changed where of an object of the header it is so: at a place of the span the node voted, or as naming answered the Confirm, in the later
-/// incarnation that the line names, and in the earlier one a copy was active there, or naming gave the action's root a lock on the entry; or a
-/// server voted behind the place where both copies had become active in its life, the older first. That the action or its unit uses the
-/// object isn't said. It does nothing when it runs.
+/// changed where it is so of an object of the header on which a call or an include survives, by the lines before, in the action or in a
+/// committed top of its root: at a place of the span the node voted, or as naming answered the Confirm, in the later incarnation that the line
+/// names, and in the earlier one a copy was active there, or naming gave the action's root a lock on the entry; or a server voted behind the
+/// place where both copies had become active in its life, the older first. It does nothing when it runs.
 pub fn refused_commits_have_causes()
     ensures listed { RowHolds is_listed_abort }
     ensures bare { RowHolds is_bare_abort }
     ensures met { RowHolds is_met_abort }
     ensures old { RowHolds is_old_abort }
-    ensures changed { TestHolds is_changed_so is_changed_abort }
+    ensures changed { RowHolds is_changed_abort }
 {}
 
 /// In every such run something is prepared for an action that began and whose commit was called: at a store where a write or an include of it

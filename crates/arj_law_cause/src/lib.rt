@@ -6,9 +6,10 @@
 //! top commits, `spelled/` that what is sent can be spelled, `told/` all that a journal says of why it is so, put together, `form/` which
 //! lines are in form, `rounds/` what quiesces answer and rounds leave.
 //!
-//! What it gives upward: `journals_follow_their_events`, `journals_tell_their_causes`; `tree_refusals_follow`, `object_refusals_follow`,
-//! `refusals_follow`, `dooms_have_causes`, `lines_follow`; `waiting_refusals_follow`, `answers_end_what_waits`, `commits_end_what_waits`,
-//! `giveups_lose_calls`; `conflicts_are_met`, `tables_agree_inside_events`, `answers_have_causes`, `answers_are_of_their_operations`;
+//! What it gives upward: `every_line_has_its_cause`, `journals_follow_their_events`, `journals_tell_their_causes`;
+//! `tree_refusals_follow`, `object_refusals_follow`, `refusals_follow`, `dooms_have_causes`, `lines_follow`; `waiting_refusals_follow`,
+//! `answers_end_what_waits`, `commits_end_what_waits`, `giveups_lose_calls`; `conflicts_are_met`, `tables_agree_inside_events`,
+//! `answers_have_causes`, `answers_are_of_their_operations`;
 //! `frame_lines_have_causes`, `stops_have_causes`, `restarts_have_causes`, `limits_have_causes`, `openings_have_causes`,
 //! `plain_refusals_have_causes`, `denials_have_causes`, `commits_done_have_causes`, `quiesces_have_causes`, `recoveries_have_causes`,
 //! `ends_have_causes`, `shows_have_causes`, `locks_on_objects_are_free`, `locks_on_entries_are_free`, `bindings_have_causes`,
@@ -52,7 +53,9 @@ pub use rounds::{
     journals_tell_how_nodes_are, quiesces_answer_who_waits, rounds_end_quiet,
 };
 pub use tables::tables_agree_inside_events;
-pub use telling::{journals_follow_their_events, journals_tell_their_causes};
+pub use telling::{
+    every_line_has_its_cause, journals_follow_their_events, journals_tell_their_causes,
+};
 pub use waiting::{
     answers_end_what_waits, commits_end_what_waits, giveups_lose_calls, waiting_refusals_follow,
 };

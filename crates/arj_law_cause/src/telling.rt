@@ -1,12 +1,18 @@
 // What every journal says of why it is so.
-ghost use Rattle.arj_law_cause.specs.told.Runs.{JournalsTell, RunsFollow};
+ghost use Rattle.arj_law_cause.specs.told.Runs.{JournalsTell, LinesHaveCauses, RunsFollow};
 
 /// In every run in form, wherever it begins and wherever disks stop, the journal says why it is so, in words of the header, the events and its
-/// own lines (`TellsItsCauses`): what each event writes and for what it is refused (`Follows`); that each line has its cause, but for one
-/// kind of which a part of it is known (`is_told_why`); which lines answer what waits; and what quiesces answer and rounds of them leave
-/// (`TellsQuiesces`). It does nothing when it runs.
+/// own lines (`TellsItsCauses`): what each event writes and for what it is refused (`Follows`); that each line has its cause (`JHasCauses`);
+/// which lines answer what waits; and what quiesces answer and rounds of them leave (`TellsQuiesces`). It does nothing when it runs.
 pub fn journals_tell_their_causes()
     ensures runs { JournalsTell }
+{}
+
+/// In every run in form, wherever it begins and wherever disks stop, every line of the journal has its cause (`JHasCauses` of `arj_model`):
+/// what makes a line of its kind stand is so by the header, by what the run began with, by the events, and by the lines before it. It does
+/// nothing when it runs.
+pub fn every_line_has_its_cause()
+    ensures runs { LinesHaveCauses }
 {}
 
 /// In every run in form, wherever it begins and wherever disks stop, the journal follows the events that were run (`Follows` of `arj_model`):

@@ -1,12 +1,10 @@
--- Where a coordinator says that a server, or naming, refused a commit since something changed, the line has so much of its cause.
+-- Where a coordinator says that a server, or naming, refused a commit since something changed, the line has its cause.
 use Rattle.arj_law_parts.proofs.Words
 use Words.{◌≡◌, ◌≤◌, ◌<◌, ◌⊎◌, ◌∙◌, ◌==◌, ◌&&◌, ◌||◌, ℕ, Bool, true, false, if◌then◌else◌, List, [], ◌∷◌, length, Some, refl, sym, ap}
 use Words.{subst, inl, inr, ⊎_elim, and_parts, eqb-true, In, Asked, Header, Line, Message, Reply, Start, What, actor, answers, arith}
 use Words.{nat_tests, ask_kind, ask_of, differs, frame_kind, has, name, response, reply_kind, waits_for_commit, Committing, Confirming, Doing}
 use Words.{Machine, Voting, doing_of, is_committing_now, is_own, plan_of, Disk, Parts, Node, Seen, Uid, left_of, list_any, AllByRecursion}
 use Words.{in_from, in_map, nat_lt, ObjectLine, Plan, Used}
-use Words.body
-use Words.cause
 use Words.confirmed
 use Words.frame
 use Words.voted
@@ -25,7 +23,7 @@ use Rattle.arj_law_runs.specs.journal.Right.{AreRight}
 use Rattle.arj_journal.specs.ScriptForm.{HeaderInForm}
 use Rattle.arj_law_disk_view.proofs.Terms.{or_left, or_right}
 use Rattle.arj_law_lock_view.specs.facts.Entries.{HasObject}
-use Rattle.arj_law_serial.proofs.Terms.{acts, any_in, path}
+use Rattle.arj_law_serial.proofs.Terms.{acts, any_in, its_sound, one_act, path}
 use Rattle.arj_law_serial.proofs.joint.{MarkRuns.own_doing}
 use Rattle.arj_model.specs.Actions.{root_in}
 use Rattle.arj_model.specs.CauseCopies.{has_entered_in}
@@ -36,12 +34,12 @@ use Rattle.arj_law_cause.proofs.confirm.{Called.is_called, Changes.IsVoted, Chan
 use Rattle.arj_law_cause.proofs.confirm.{Plain.Votes, Reached.Reached, Reached.reached_has, Says.ShowsFrom, Says.confirms_so}
 use Rattle.arj_law_cause.proofs.confirm.{Spans.commits_at, Spans.place}
 use Rattle.arj_law_cause.proofs.confirm.{Granted.NowHad, Granting.GrantsAreHad, Granting.own_of, Had.HadIn, Had.IsUsedSo, Had.PlanSo}
+use Rattle.arj_law_cause.proofs.confirm.{Had.UsesIn}
 use Rattle.arj_law_cause.proofs.confirm.{Ups.UpsRise, Using.entered, Using.older}
 use Rattle.arj_law_cause.proofs.rows.Entered.{IsSettled}
 use Rattle.arj_law_cause.proofs.rows.Spans.{answered_at}
 use Rattle.arj_law_cause.proofs.waits.waiting.{Acting.Stands, Waiting.commit_is}
 use Rattle.arj_law_cause.proofs.waits.waiting.Acting as acting
-use Rattle.arj_law_cause.specs.kinds.Tests.{is_changed_so}
 use Rattle.arj_law_cause.specs.rows.Early.{IsEarly}
 use Rattle.arj_law_cause.proofs.bindings.{Lines.IsLined, Since.IsActiveIn, Since.active_in_more, Since.active_then}
 use Rattle.arj_law_cause.proofs.confirm.{Joined.early_before, Planned.in_set, Using.served, Voting.voted_differs}
@@ -50,7 +48,8 @@ use Rattle.arj_law_lock_view.proofs.Terms.{IsLeft, KnowsParted}
 use Rattle.arj_law_runs.specs.calls.Bindings.{HasFewBindings}
 use Rattle.arj_law_serial.proofs.Terms.{kept_of, parted_keep}
 use Rattle.arj_law_serial.proofs.joint.Sparing.{ArePartedNow}
-use Rattle.arj_model.specs.CauseCommits.{commit_differs_on}
+use Rattle.arj_model.specs.CauseCommits.{commit_differs, commit_differs_on}
+use Rattle.arj_model.specs.CausePends.{unit_uses}
 use Rattle.arj_model.specs.CauseCopies.{had_both, may_have_met, was_active_in}
 use Rattle.arj_model.specs.CauseSpans.{same_frame}
 use Words.{Binding, filter, in_filter, is_at_server, least_of, map, servers_of}
@@ -374,23 +373,35 @@ module _ (hd : Header) (st : Start) (form : HeaderInForm hd) (before : List Line
 
       -- ---- the row
 
-      pub changed_row :
-          is_changed_so (record h { header = hd; lines = M.seen.lines }) (body.Aborted w.label (cause.Changed n (differs c))) ≡ true
+      -- the action's unit uses what its plan uses
+      unit_so : (u : Used) → In u (let p = plan_of machine in p.used) → unit_uses M.seen.lines (let s = stands in s.act) u.x ≡ true
+      unit_so u i =
+          let sound = its_sound M.seen.lines right in
+          let q = used u i in
+          let its : UsesIn M.seen.lines a.act u.x = q.uses sound.distinct in
+          subst (λ b. unit_uses M.seen.lines b u.x ≡ true) (one_act (acts M.seen.lines) sound.distinct its.0 (let s = stands in s.act) its.1
+          (let s = stands in s.began) (its.2 ∙ sym its_uid)) its.3
+
+      pub changed_row : commit_differs (record h { header = hd; lines = M.seen.lines }) (name w.label) n (differs c) ≡ true
       unfolding its_place
       changed_row = commits_at (record h { header = hd; lines = M.seen.lines }) (name w.label) (let z = ans.3 in z.made.before)
           (let z = ans.3 in z.made.after) (let z = ans.3 in z.made.are) right (let s = stands in s.act)
           (let s = stands in s.named) under called
-          (λ b e. list_any (λ (o : ObjectLine). commit_differs_on (record h { header = hd; lines = M.seen.lines }) b e n o.x (differs c))
-          hd.objects) (there (⊎_elim {C = (u : Used) × In u (let p = plan_of machine in p.used) × Of u} (λ z. voted_so z)
+          (λ b e. list_any (λ (o : ObjectLine). unit_uses M.seen.lines b o.x
+          && commit_differs_on (record h { header = hd; lines = M.seen.lines }) b e n o.x (differs c)) hd.objects)
+          (there (⊎_elim {C = (u : Used) × In u (let p = plan_of machine in p.used) × Of u} (λ z. voted_so z)
           (λ z. confirmed_so z) told.2))
         where
           there : ((u : Used) × In u (let p = plan_of machine in p.used) × Of u) →
-              list_any (λ (o : ObjectLine). commit_differs_on (record h { header = hd; lines = M.seen.lines }) (let s = stands in s.act)
+              list_any (λ (o : ObjectLine). unit_uses M.seen.lines (let s = stands in s.act) o.x
+              && commit_differs_on (record h { header = hd; lines = M.seen.lines }) (let s = stands in s.act)
               its_place.0 n o.x (differs c)) hd.objects ≡ true
           there z =
               let o : HasObject hd (let u = z.0 in u.x) =
               plan_object hd form k d t M.seen known.0 known.2 settled.early a.act w machine found now z.0 z.1 in
-              any_in (λ (o : ObjectLine). commit_differs_on (record h { header = hd; lines = M.seen.lines }) (let s = stands in s.act)
+              any_in (λ (o : ObjectLine). unit_uses M.seen.lines (let s = stands in s.act) o.x
+              && commit_differs_on (record h { header = hd; lines = M.seen.lines }) (let s = stands in s.act)
               its_place.0 n o.x (differs c)) o.0 hd.objects (in_from o.0 hd.objects o.1)
-              (ap (λ y. commit_differs_on (record h { header = hd; lines = M.seen.lines }) (let s = stands in s.act) its_place.0 n y (differs c))
-              o.2 ∙ z.2)
+              (ap (λ y. unit_uses M.seen.lines (let s = stands in s.act) y
+              && commit_differs_on (record h { header = hd; lines = M.seen.lines }) (let s = stands in s.act) its_place.0 n y (differs c))
+              o.2 ∙ (λ j. unit_so z.0 z.1 j && z.2 j))

@@ -1,4 +1,5 @@
--- As a commit is called each object of its plan has a grant that counts, of a top of its root, and names the least one of these.
+-- As a commit is called each object of its plan has a grant that counts, of a top of its root, and names the least one of these; and by the
+-- journal the action's unit uses it.
 use Rattle.arj_law_parts.proofs.Words
 use Words.{⊤, ◌≡◌, ◌≢◌, ◌⊎◌, ◌≤◌, ◌∙◌, ◌==◌, ◌&&◌, ◌||◌, ◌++◌, not, nat_le, ℕ, Bool, true, false, cond, List, [], ◌∷◌, map, filter, min}
 use Words.{Option, Some}
@@ -31,10 +32,14 @@ use Rattle.arj_law_runs.proofs.Terms.{own_is}
 use Rattle.arj_law_runs.proofs.journal.{Coords.waits_free, Likes.not_committing}
 use Rattle.arj_law_runs.proofs.journal.Beginning as Beginning
 use Rattle.arj_law_runs.specs.addresses.Binds as binds
+use Rattle.arj_law_runs.specs.calls.Bindings.{HasFewBindings}
 use Rattle.arj_law_runs.specs.journal.Book.{book}
-use Rattle.arj_law_serial.proofs.Terms.{AreDistinct, acts, any_in, path_by, uids}
-use Rattle.arj_law_cause.proofs.confirm.{Granted.AreHad, Granted.IsHad, Granted.its_grants, Had.HadIn, Had.PlanSo}
-use Rattle.arj_law_cause.proofs.confirm.{Had.WasHad, Reached.Reached, Reached.reached_has}
+use Rattle.arj_law_serial.proofs.Terms.{Act, AreDistinct, AreFormed, AreRight, acts, any_in, is_top, its_sound, new_book, path_by, uids}
+use Rattle.arj_law_serial.proofs.order.{Order.top_plain, Paths.own_there}
+use Rattle.arj_model.specs.CausePends.{unit_uses}
+use Rattle.arj_law_cause.proofs.confirm.{Granted.AreHad, Granted.IsHad, Granted.its_grants, Had.HadIn, Had.PlanSo, Had.UsesIn}
+use Rattle.arj_law_cause.proofs.confirm.{Had.WasHad, Reached.Reached, Reached.reached_has, Survivors.committed_by, Survivors.its_act}
+use Rattle.arj_law_cause.proofs.confirm.{Survivors.upper_kind, Survivors.uses_there, Uses.unit_itself, Uses.unit_of, Using.act_roots}
 use Rattle.arj_law_cause.proofs.confirm.Placed as placed
 use Rattle.arj_law_cause.proofs.bindings.{Asking.AreAtSo, Asking.IsKeptSo, Asking.IsRootSo, Copies.active_by, Lines.IsLined, Said.KnowsBindings}
 use Rattle.arj_law_cause.proofs.bindings.{Said.bindings_keep, Since.IsActiveIn, Since.met_in}
@@ -146,9 +151,13 @@ module _ (sent : List Post) (k : ℕ) (c : Coord) (place : Place sent k c) (gran
   abbrev r : Root
   r = root_at (root_of b.path) c
 
-  abbrev Counting : ℕ → Type 0
-  Counting x = (g : Grant) × list.In g (root_at (root_of b.path) c).grants
-      × (counts_grant (actor b.path) x (root_at (root_of b.path) c) c g ≡ true)
+  -- it counts, and its top uses the object
+  abbrev pub IsOf : ℕ → Grant → Type 0
+  IsOf x g = (counts_grant (actor b.path) x (root_at (root_of b.path) c) c g ≡ true)
+      × (top_uses g.top x (root_at (root_of b.path) c) c ≡ true)
+
+  abbrev pub Counting : ℕ → Type 0
+  Counting x = (g : Grant) × list.In g (root_at (root_of b.path) c).grants × IsOf x g
 
   equal : (a m : ℕ) → a ≡ m → (a == m) ≡ true
   equal a m is = grind (arith, is)
@@ -194,29 +203,33 @@ module _ (sent : List Post) (k : ℕ) (c : Coord) (place : Place sent k c) (gran
 
   -- the grant of whoever has used the object counts, where that counts
   counted : (x : ℕ) (us : List Uid) (w : Uid) (q : Branch) → branch_of w c.tree ≡ Some q → uids_of q.path ≡ us →
-      counts (actor b.path) us c ≡ true →
-      ((v : Uid) → is_kept_top v c ≡ true → survives v us c ≡ true → top_uses v x (root_at (root_of b.path) c) c ≡ true) →
-      (g : Grant) → g.x ≡ x → g.top ≡ top_of q.path →
-      counts_grant (actor b.path) x (root_at (root_of b.path) c) c g ≡ true
-  counted x us w q at path on uses g object of = λ j. equal g.x x object j
-      && ⊎_elim {C = (uid_eq g.top (actor b.path)
-      || (is_kept_top g.top c && top_uses g.top x (root_at (root_of b.path) c) c)) ≡ true} own held
-      (or_cases (survives (actor b.path) us c) (is_retained us c) on) j
+      counts (actor b.path) us c ≡ true → ((v : Uid) → survives v us c ≡ true → top_uses v x (root_at (root_of b.path) c) c ≡ true) →
+      (g : Grant) → g.x ≡ x → g.top ≡ top_of q.path → IsOf x g
+  counted x us w q at path on uses g object of =
+      ⊎_elim {C = IsOf x g} own held (or_cases (survives (actor b.path) us c) (is_retained us c) on)
     where
-      own : survives (actor b.path) us c ≡ true →
-          (uid_eq g.top (actor b.path) || (is_kept_top g.top c && top_uses g.top x (root_at (root_of b.path) c) c)) ≡ true
-      own is = either_first (uid_eq g.top (actor b.path)) (is_kept_top g.top c && top_uses g.top x (root_at (root_of b.path) c) c)
-          (ap (λ v. uid_eq v (actor b.path)) (of ∙ one_top w q at (actor b.path) b found top.0 top.1
-          (ap (λ vs. is_on vs (actor b.path)) path ∙ on_it (actor b.path) us is)) ∙ uid_same (actor b.path))
+      both : (uid_eq g.top (actor b.path) || (is_kept_top g.top c && top_uses g.top x (root_at (root_of b.path) c) c)) ≡ true →
+          counts_grant (actor b.path) x (root_at (root_of b.path) c) c g ≡ true
+      both h = λ j. equal g.x x object j && h j
 
-      held : is_retained us c ≡ true →
-          (uid_eq g.top (actor b.path) || (is_kept_top g.top c && top_uses g.top x (root_at (root_of b.path) c) c)) ≡ true
+      own : survives (actor b.path) us c ≡ true → IsOf x g
+      own is =
+          let same : g.top ≡ actor b.path = of ∙ one_top w q at (actor b.path) b found top.0 top.1
+          (ap (λ vs. is_on vs (actor b.path)) path ∙ on_it (actor b.path) us is) in (
+            both (either_first (uid_eq g.top (actor b.path)) (is_kept_top g.top c && top_uses g.top x (root_at (root_of b.path) c) c)
+                (ap (λ v. uid_eq v (actor b.path)) same ∙ uid_same (actor b.path))),
+            ap (λ v. top_uses v x (root_at (root_of b.path) c) c) same ∙ uses (actor b.path) is,
+          )
+
+      held : is_retained us c ≡ true → IsOf x g
       held is =
           let v = retains_it us is in
           let e = kept_branch v.0 v.1 in
-          let same : g.top ≡ v.0 = of ∙ one_top w q at v.0 e.0 e.1 e.2 e.3 (ap (λ vs. is_on vs v.0) path ∙ on_it v.0 us v.2) in
-          either_last (uid_eq g.top (actor b.path)) (ap (λ t. is_kept_top t c && top_uses t x (root_at (root_of b.path) c) c) same
-          ∙ (λ i. v.1 i && uses v.0 v.1 v.2 i))
+          let same : g.top ≡ v.0 = of ∙ one_top w q at v.0 e.0 e.1 e.2 e.3 (ap (λ vs. is_on vs v.0) path ∙ on_it v.0 us v.2) in (
+            both (either_last (uid_eq g.top (actor b.path)) (ap (λ t. is_kept_top t c && top_uses t x (root_at (root_of b.path) c) c) same
+                ∙ (λ i. v.1 i && uses v.0 v.2 i))),
+            ap (λ v. top_uses v x (root_at (root_of b.path) c) c) same ∙ uses v.0 v.2,
+          )
 
   -- a call that counts isn't spent
   pub unspent : (s : Said) → list.In s (root_at (root_of b.path) c).said → counts (actor b.path) s.path c ≡ true → IsSpent c.tree s.path → ⊥
@@ -261,7 +274,7 @@ module _ (sent : List Post) (k : ℕ) (c : Coord) (place : Place sent k c) (gran
           let one : g.branch ≡ z.branch = cc same in (
             g.grant,
             g.there,
-            counted y.x y.path (last_uid y.path) z.branch z.there z.path also (λ v kept stays. uses y j v stays) g.grant
+            counted y.x y.path (last_uid y.path) z.branch z.there z.path also (λ v stays. uses y j v stays) g.grant
                 g.object (g.top ∙ ap (λ (q : Branch). top_of q.path) one),
           )
 
@@ -283,13 +296,13 @@ module _ (sent : List Post) (k : ℕ) (c : Coord) (place : Place sent k c) (gran
       let its : IsIncluded all_tests j.x (top_of (let q = n.branch in q.path)) n.grant (root_at (root_of b.path) c) = n.included in (
         its.grant,
         its.there,
-        counted j.x j.path (last_uid j.path) n.branch n.found n.path on (λ v kept stays.
+        counted j.x j.path (last_uid j.path) n.branch n.found n.path on (λ v stays.
             either_last (list_any (λ (z : Said). (z.x == j.x) && survives v z.path c) (root_at (root_of b.path) c).said)
             (any_in (λ (z : Joined). (z.x == j.x) && survives v z.path c) j (root_at (root_of b.path) c).joined i
             (λ l. equal j.x j.x refl l && stays l))) its.grant its.object its.of,
       )
 
-  object_counts : (x : ℕ) → list.In x (objects_in (actor b.path) (root_at (root_of b.path) c) c) → Counting x
+  pub object_counts : (x : ℕ) → list.In x (objects_in (actor b.path) (root_at (root_of b.path) c) c) → Counting x
   object_counts x i = ⊎_elim {C = Counting x}
       (λ l. let f = in_map (λ (s : Said). s.x) x (said_in (actor b.path) (root_at (root_of b.path) c) c) l in
       let g = in_filter (λ (s : Said). counts (actor b.path) s.path c) f.0 (root_at (root_of b.path) c).said f.1 in
@@ -311,7 +324,7 @@ module _ (sent : List Post) (k : ℕ) (c : Coord) (place : Place sent k c) (gran
       let z = object_counts x i in
       let few = filter (counts_grant (actor b.path) x (root_at (root_of b.path) c) c) (root_at (root_of b.path) c).grants in
       let l = least_in (map (λ (g : Grant). g.least) few) (let g = z.0 in g.least) (map_in (λ (g : Grant). g.least) z.0 few
-      (kept_in (counts_grant (actor b.path) x (root_at (root_of b.path) c) c) z.0 (root_at (root_of b.path) c).grants z.1 z.2)) in
+      (kept_in (counts_grant (actor b.path) x (root_at (root_of b.path) c) c) z.0 (root_at (root_of b.path) c).grants z.1 z.2.0)) in
       let f = in_map (λ (g : Grant). g.least) (least_of (map (λ (g : Grant). g.least) few)) few l in
       let g = in_filter (counts_grant (actor b.path) x (root_at (root_of b.path) c) c) f.0 (root_at (root_of b.path) c).grants f.1 in
       let q = and_parts ((let h = f.0 in h.x) == x) (uid_eq (let h = f.0 in h.top) (actor b.path)
@@ -387,6 +400,91 @@ module _ (hd : Header) (st : Start) (Z : Seen) (reached : Reached hd Z) (k : ℕ
       none_is None is = refl
       none_is (Some e) is = absurd (cc is)
 
+  settled : RecordsRun Z
+  settled = reached_has hd RecordsRun (keeps_asked hd RecordsRun (records_run_on hd)) Z reached
+
+  kept : HasFewBindings Z.lines → KnowsKept t.coord all_tests Z.sent t.coord
+  kept few =
+      let w = (settled.1 few).1 in
+      let q = w.0.0.0.1.1 k n t here live in
+      (let y = q.records all_tests (record { zero = refl; down = λ x v m le is. refl; answered = w.1.0 all_tests (all_pass Z) }) in y.kept)
+
+  grants : KnowsGrants t.coord
+  grants = let g = reached_has hd GrantsAreKnown (keeps_asked hd GrantsAreKnown (grants_keep hd)) Z reached in
+      (let e = g.1 in e.nodes k n t here live).0
+
+  had_of : (g : Grant) → list.In g (root_at (root_of b.path) t.coord).grants →
+      HadIn st Z.lines (let w = root_of b.path in w.num) g.top g.x g.least
+  had_of g i = each_of (IsHad (HadIn st Z.lines) (PlanSo st Z.lines) (let w = root_of b.path in w.num))
+      (root_at (root_of b.path) t.coord).grants g (its_grants (HadIn st Z.lines) (PlanSo st Z.lines) (root_of b.path) t.coord roots) i
+
+  -- a kept top that has a grant of the root is of that root
+  of_kept : HasFewBindings Z.lines → (g : Grant) → list.In g (root_at (root_of b.path) t.coord).grants → AreDistinct (acts Z.lines) →
+      is_kept_top g.top t.coord ≡ true →
+      first_uid (uids (path_by (acts Z.lines) g.top)) ≡ first_uid (uids (path_by (acts Z.lines) (actor b.path)))
+  of_kept few g i distinct is =
+      let e = kept_branch Z.sent k t.coord (placed.place hd Z reached k n t here live) grants (kept few) b found reasons.0 top g.top is in
+      let path = placed.path_at hd Z reached k n t here live g.top e.0 e.1 in
+      let had = had_of g i in
+      ap first_uid path ∙ own_is (root_of (let q = e.0 in q.path)) (root_of b.path) t.coord.tree
+      (placed.root_there hd Z reached k n t here live g.top e.0 e.1)
+      (placed.root_there hd Z reached k n t here live (actor b.path) b found)
+      (ap (λ us. (let v = first_uid us in v.num)) (sym path) ∙ had.of distinct)
+      ∙ ap first_uid (sym (placed.path_at hd Z reached k n t here live (actor b.path) b found))
+
+  -- the action or a kept top uses the object by the journal
+  object_used : HasFewBindings Z.lines → (x : ℕ) → list.In x (objects_in (actor b.path) (root_at (root_of b.path) t.coord) t.coord) →
+      AreDistinct (acts Z.lines) → UsesIn Z.lines (actor b.path) x
+  object_used few x i distinct = (its.0, its.1, its.2, ⊎_elim {C = unit_uses Z.lines its.0 x ≡ true} itself another cases)
+    where
+      right : AreRight new_book Z.lines
+      right = placed.right hd Z reached k n t here live
+
+      its : (a : Act) × list.In a (acts Z.lines) × (a.uid ≡ actor b.path) × (a.kind ≡ b.kind)
+      its = its_act hd Z reached k n t here live (actor b.path) b found
+
+      z : Counting Z.sent k t.coord (placed.place hd Z reached k n t here live) grants (kept few) b found reasons.0 top x
+      z = object_counts Z.sent k t.coord (placed.place hd Z reached k n t here live) grants (kept few) b found reasons.0 top x i
+
+      cases : (uid_eq (let g = z.0 in g.top) (actor b.path) ≡ true)
+          ⊎ ((is_kept_top (let g = z.0 in g.top) t.coord
+          && top_uses (let g = z.0 in g.top) x (root_at (root_of b.path) t.coord) t.coord) ≡ true)
+      cases = or_cases (uid_eq (let g = z.0 in g.top) (actor b.path)) (is_kept_top (let g = z.0 in g.top) t.coord
+          && top_uses (let g = z.0 in g.top) x (root_at (root_of b.path) t.coord) t.coord)
+          (and_parts ((let g = z.0 in g.x) == x) (uid_eq (let g = z.0 in g.top) (actor b.path)
+          || (is_kept_top (let g = z.0 in g.top) t.coord
+          && top_uses (let g = z.0 in g.top) x (root_at (root_of b.path) t.coord) t.coord)) z.2.0).1
+
+      itself : uid_eq (let g = z.0 in g.top) (actor b.path) ≡ true → unit_uses Z.lines its.0 x ≡ true
+      itself same = unit_itself Z.lines right its.0 x
+          (uses_there hd Z reached k n t here live (root_of b.path) (actor b.path) b found (upper_kind b.kind top.0 top.1) x
+          (ap (λ v. top_uses v x (root_at (root_of b.path) t.coord) t.coord) (sym (uid_is (let g = z.0 in g.top) (actor b.path) same))
+          ∙ z.2.1) its.0 its.1 its.2)
+
+      another : (is_kept_top (let g = z.0 in g.top) t.coord
+          && top_uses (let g = z.0 in g.top) x (root_at (root_of b.path) t.coord) t.coord) ≡ true → unit_uses Z.lines its.0 x ≡ true
+      another both =
+          let is = (and_parts (is_kept_top (let g = z.0 in g.top) t.coord)
+          (top_uses (let g = z.0 in g.top) x (root_at (root_of b.path) t.coord) t.coord) both).0 in
+          let e = kept_branch Z.sent k t.coord (placed.place hd Z reached k n t here live) grants (kept few) b found reasons.0 top
+          (let g = z.0 in g.top) is in
+          let v = its_act hd Z reached k n t here live (let g = z.0 in g.top) e.0 e.1 in
+          let upper : is_top (let q = e.0 in q.kind) ≡ true = upper_kind (let q = e.0 in q.kind) e.2 e.3 in
+          let plain : is_serial (let q = e.0 in q.kind) ≡ false = top_plain (let q = e.0 in q.kind) upper in
+          unit_of Z.lines right its.0 v.0 x v.1 (ap is_top v.3 ∙ upper)
+          (ap (is_on (let X = book Z.lines in X.committed)) v.2
+          ∙ committed_by hd Z reached k n t here live (let g = z.0 in g.top) e.0 e.1 plain
+          (and_parts (is_constituent_branch (branch_of (let g = z.0 in g.top) t.coord.tree))
+          (is_committed (let g = z.0 in g.top) t.coord.tree) is).1)
+          (act_roots (acts Z.lines) distinct v.0 its.0 v.1 its.1
+          (own_there (acts Z.lines) distinct formed v.0 v.1) (own_there (acts Z.lines) distinct formed its.0 its.1)
+          (ap (λ w. first_uid (uids (path_by (acts Z.lines) w))) v.2 ∙ of_kept few z.0 z.1 distinct is
+          ∙ ap (λ w. first_uid (uids (path_by (acts Z.lines) w))) (sym its.2)))
+          (uses_there hd Z reached k n t here live (root_of b.path) (let g = z.0 in g.top) e.0 e.1 upper x z.2.1 v.0 v.1 v.2)
+        where
+          formed : AreFormed (acts Z.lines)
+          formed = let s = its_sound Z.lines right in s.formed
+
   object_so : (x : ℕ) → list.In x (objects_in (actor b.path) (root_at (root_of b.path) t.coord) t.coord) →
       PlanSo st Z.lines (actor b.path) (used_of (actor b.path) (root_at (root_of b.path) t.coord) t.coord x)
   object_so x i few = record {
@@ -401,32 +499,18 @@ module _ (hd : Header) (st : Start) (Z : Seen) (reached : Reached hd Z) (k : ℕ
     its = placed.began hd Z reached k n t here live (actor b.path) b found;
     root = λ distinct. ⊎_elim
         {C = first_uid (uids (path_by (acts Z.lines) (let g = its.0 in g.top))) ≡ first_uid (uids (path_by (acts Z.lines) (actor b.path)))}
-        (λ same. ap (λ v. first_uid (uids (path_by (acts Z.lines) v))) same) (λ kept. of_kept distinct kept) its.4;
+        (λ same. ap (λ v. first_uid (uids (path_by (acts Z.lines) v))) same) (λ kept. of_kept few its.0 its.1 distinct kept) its.4;
+    uses = λ distinct. object_used few x i distinct;
     server = server_so;
   }
     where
-      settled : RecordsRun Z
-      settled = reached_has hd RecordsRun (keeps_asked hd RecordsRun (records_run_on hd)) Z reached
-
-      kept : KnowsKept t.coord all_tests Z.sent t.coord
-      kept =
-          let w = (settled.1 few).1 in
-          let q = w.0.0.0.1.1 k n t here live in
-          (let y = q.records all_tests (record { zero = refl; down = λ x v m le is. refl; answered = w.1.0 all_tests (all_pass Z) }) in y.kept)
-
-      grants : KnowsGrants t.coord
-      grants = let g = reached_has hd GrantsAreKnown (keeps_asked hd GrantsAreKnown (grants_keep hd)) Z reached in
-          (let e = g.1 in e.nodes k n t here live).0
-
       its : (g : Grant) × list.In g (root_at (root_of b.path) t.coord).grants × (g.x ≡ x)
           × (least_grant (actor b.path) x (root_at (root_of b.path) t.coord) t.coord ≡ g.least)
           × ((g.top ≡ actor b.path) ⊎ (is_kept_top g.top t.coord ≡ true))
-      its = least_counts Z.sent k t.coord (placed.place hd Z reached k n t here live) grants kept b found reasons.0 top x i
+      its = least_counts Z.sent k t.coord (placed.place hd Z reached k n t here live) grants (kept few) b found reasons.0 top x i
 
       had : HadIn st Z.lines (let w = root_of b.path in w.num) (let g = its.0 in g.top) (let g = its.0 in g.x) (let g = its.0 in g.least)
-      had = each_of (IsHad (HadIn st Z.lines) (PlanSo st Z.lines) (let w = root_of b.path in w.num))
-          (root_at (root_of b.path) t.coord).grants its.0
-          (its_grants (HadIn st Z.lines) (PlanSo st Z.lines) (root_of b.path) t.coord roots) its.1
+      had = had_of its.0 its.1
 
       -- where it was called, whose copy was active at the server
       server_so : IsEarly Z.lines → (let w = used_of (actor b.path) (root_at (root_of b.path) t.coord) t.coord x in w.called) ≡ true →
@@ -458,8 +542,8 @@ module _ (hd : Header) (st : Start) (Z : Seen) (reached : Reached hd Z) (k : ℕ
           kept_it = recorded (kept_of x (root_at (root_of b.path) t.coord)) refl
               (subst (λ y. IsRecorded (kept_of y (root_at (root_of b.path) t.coord))) at_x
               (⊎_elim {C = IsRecorded (kept_of (let s = said.0 in s.x) (root_at (root_of b.path) t.coord))}
-              (λ z. absurd (unspent Z.sent k t.coord (placed.place hd Z reached k n t here live) grants kept b found reasons.0 top said.0
-              there_too.0 there_too.1 z)) (λ r. r) (kept.said (root_of b.path) said.0 there_too.0)))
+              (λ z. absurd (unspent Z.sent k t.coord (placed.place hd Z reached k n t here live) grants (kept few) b found reasons.0 top
+              said.0 there_too.0 there_too.1 z)) (λ r. r) (let w = kept few in w.said (root_of b.path) said.0 there_too.0)))
 
           inc : (i : ℕ) × ((let q = kept_it.0 in q.inc) ≡ Some i)
           inc = incs early found said.0 there_too.0 kept_it.0
@@ -484,18 +568,6 @@ module _ (hd : Header) (st : Start) (Z : Seen) (reached : Reached hd Z) (k : ℕ
           same = (λ j. used_with x (on j) (actor b.path) (root_at (root_of b.path) t.coord) t.coord
               (known_for (on j) x (root_at (root_of b.path) t.coord)))
               ∙ ap (λ o. used_with x true (actor b.path) (root_at (root_of b.path) t.coord) t.coord (unwrap_or o nothing_known)) kept_it.1
-
-      of_kept : AreDistinct (acts Z.lines) → is_kept_top (let g = its.0 in g.top) t.coord ≡ true →
-          first_uid (uids (path_by (acts Z.lines) (let g = its.0 in g.top))) ≡ first_uid (uids (path_by (acts Z.lines) (actor b.path)))
-      of_kept distinct is =
-          let e = kept_branch Z.sent k t.coord (placed.place hd Z reached k n t here live) grants kept b found reasons.0 top
-          (let g = its.0 in g.top) is in
-          let path = placed.path_at hd Z reached k n t here live (let g = its.0 in g.top) e.0 e.1 in
-          ap first_uid path ∙ own_is (root_of (let q = e.0 in q.path)) (root_of b.path) t.coord.tree
-          (placed.root_there hd Z reached k n t here live (let g = its.0 in g.top) e.0 e.1)
-          (placed.root_there hd Z reached k n t here live (actor b.path) b found)
-          (ap (λ us. (let v = first_uid us in v.num)) (sym path) ∙ had.of distinct)
-          ∙ ap first_uid (sym (placed.path_at hd Z reached k n t here live (actor b.path) b found))
 
   pub plan_so : AllByRecursion (PlanSo st Z.lines (actor b.path)) (let p = plan_for b.path (last_req (doing_of (actor b.path) t.coord))
       (root_at (root_of b.path) t.coord) t.coord in p.used)

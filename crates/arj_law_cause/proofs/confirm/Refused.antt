@@ -58,9 +58,8 @@ use Rattle.arj_law_serial.proofs.holding.{Running.Showing, Running.alike_of}
 use Rattle.arj_law_serial.proofs.tables.Holders.{path_fits}
 use Rattle.arj_model.specs.Actions.{tops_in}
 use Rattle.arj_law_cause.proofs.rows.Entered.{IsSettled}
-use Rattle.arj_law_cause.specs.kinds.Tests.{is_changed_so}
 use Rattle.arj_model.specs.CauseAnswers.{meets}
-use Rattle.arj_model.specs.CauseCommits.{confirm_meets, is_old}
+use Rattle.arj_model.specs.CauseCommits.{commit_differs, confirm_meets, is_old}
 use Rattle.arj_model.specs.CauseSpans.{top_uids}
 use Rattle.arj_model.specs.Last.{Exclusion, excluded}
 use Rattle.arj_law_serial.proofs.Terms.{Placed}
@@ -131,7 +130,7 @@ Fits hd st lines (body.Aborted l (cause.Conflict u m n)) =
 Fits hd st lines (body.Aborted l (cause.Old n y v)) = IsSettled lines → (h : Here) → h.header ≡ hd → h.start ≡ st → h.lines ≡ lines →
     is_old h (name l) n y v ≡ true
 Fits hd st lines (body.Aborted l (cause.Changed n d)) = IsSettled lines → UpsRise st lines → (h : Here) → h.header ≡ hd → h.start ≡ st →
-    h.lines ≡ lines → is_changed_so h (body.Aborted l (cause.Changed n d)) ≡ true
+    h.lines ≡ lines → commit_differs h (name l) n d ≡ true
 Fits hd st lines b = ⊤
 
 -- ---- at the coordinator

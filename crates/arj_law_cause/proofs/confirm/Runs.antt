@@ -28,7 +28,7 @@ use Rattle.arj_law_runs.proofs.follow.Frames.{frames_are_caused}
 use Rattle.arj_law_runs.specs.follow.Frames.{FramesStep, are_so, run_events}
 use Rattle.arj_law_serial.proofs.joint.FitRuns.{moves_fit}
 use Rattle.arj_model.specs.CauseSpans.{Here, behind, here_at}
-use Rattle.arj_model.specs.CauseCommits.{is_old}
+use Rattle.arj_model.specs.CauseCommits.{commit_differs, is_old}
 use Rattle.arj_model.specs.Caused.{has_cause}
 use Rattle.arj_model.specs.Follows.{Runs}
 use Rattle.arj_model.specs.Past.{Along, Past, block, next}
@@ -47,7 +47,6 @@ use Rattle.arj_law_cause.proofs.kinds.Lines.{more_lines}
 use Rattle.arj_law_cause.proofs.waits.commits.Serving as Serving
 use Rattle.arj_law_cause.proofs.waits.commits.Serving.{AreStill, IsQuiet, goes_so, naming_quiet, quiet_plain, restart_still, tick_still}
 use Rattle.arj_law_cause.specs.kinds.Kinds.{is_bare_abort, is_listed_abort, is_met_abort}
-use Rattle.arj_law_cause.specs.kinds.Tests.{is_changed_so}
 use Rattle.arj_law_cause.specs.kinds.Rows.{RowHolds, TestedStep, tested}
 use Rattle.arj_law_parts.proofs.Terms.which
 use Rattle.arj_law_parts.specs.moves.Moments.{no_history}
@@ -190,7 +189,7 @@ module _ (hd : Header) (st : Start) where
           rest,
           are,
           (λ settled rises g header starts at.
-              subst (λ z. is_changed_so z (body.Aborted w.label (cause.Changed n (Words.differs c))) ≡ true)
+              subst (λ z. commit_differs z (name w.label) n (Words.differs c) ≡ true)
               (λ i. record g { header = sym header i; lines = sym at i })
               (changed_row hd st form before event k d t M (h.0, h.1.2) made from m there a r is w machine c n found now waits changes had g
               starts settled rises)),

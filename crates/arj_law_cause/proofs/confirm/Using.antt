@@ -28,6 +28,18 @@ same_root xs distinct (x ∷ p) [] f g some there same = absurd (omega (arith, t
 same_root xs distinct (x ∷ p) (y ∷ q) f g some there same =
     ap (λ (z : Act). Some z.id) (one_act xs distinct x y (f x (inl refl)) (g y (inl refl)) same)
 
+-- the roots of two actions, by their labels
+pub act_roots : (xs : List Act) → AreDistinct xs → (v a : Act) → In v xs → In a xs → In v (path xs v.label) → In a (path xs a.label) →
+    first_uid (uids (path_by xs v.uid)) ≡ first_uid (uids (path_by xs a.uid)) → root_in (path xs v.label) ≡ root_in (path xs a.label)
+act_roots xs distinct v a i j there own same = same_root xs distinct (path xs v.label) (path xs a.label) (λ z l. on_path xs v.label z l)
+    (λ z l. on_path xs a.label z l) (long v (path xs v.label) there) (long a (path xs a.label) own)
+    (ap (λ p. first_uid (uids p)) (label_path xs distinct v.label v (found xs distinct v i)) ∙ same
+    ∙ sym (ap (λ p. first_uid (uids p)) (label_path xs distinct a.label a (found xs distinct a j))))
+  where
+    long : (z : Act) (p : List Act) → In z p → 1 ≤ length (uids p)
+    long z [] l = absurd l
+    long z (y ∷ p) l = omega arith
+
 last_on : (us : List Uid) → 1 ≤ length us → is_on us (last_uid us) ≡ true
 last_on [] some = absurd (omega (arith, some))
 last_on (u ∷ []) some = λ i. uid_same u i || false

@@ -1,13 +1,13 @@
--- Each line of a journal says why it stands: what laws say of its kinds, one by one, holds of it together.
+-- Each line of a journal has its cause: what laws say of its kinds, one by one, holds of it together.
 use Rattle.arj_law_parts.proofs.Words
-use Words.{◌≡◌, ◌&&◌, ◌||◌, not, ℕ, Bool, true, false, List, [], ◌∷◌, refl, and_parts, AllByRecursion, Body, Event, Header, Line}
+use Words.{◌≡◌, ◌∙◌, ◌&&◌, ◌||◌, not, ℕ, Bool, true, false, List, [], ◌∷◌, refl, sym, and_parts, AllByRecursion, Body, Event, Header, Line}
 use Words.{journal_by}
 use Words.body
 use Words.cause
 use Words.ending
 use Rattle.arj_law_runs.specs.follow.Frames.{are_so, run_events}
 use Rattle.arj_model.specs.CauseSpans.{Here, behind, here_at}
-use Rattle.arj_model.specs.Caused.{has_cause}
+use Rattle.arj_model.specs.Caused.{CausesStep, JHasCauses, are_caused, has_cause}
 use Rattle.arj_model.specs.Follows.{Follows, Runs, Step, is_ending}
 use Rattle.arj_model.specs.Past.{Past}
 use Rattle.arj_model.specs.Table.{is_entry}
@@ -16,7 +16,7 @@ use Rattle.arj_start.specs.Start.{Start}
 use Rattle.arj_law_cause.proofs.bindings.Active.{active_row}
 use Rattle.arj_law_cause.proofs.bindings.Bound.{bound_row}
 use Rattle.arj_law_cause.proofs.bindings.Lowered.{lowered_row}
-use Rattle.arj_law_cause.proofs.confirm.{Differs.changed_test, Overdue.old_row, Runs.bare_row, Runs.listed_row, Runs.met_row}
+use Rattle.arj_law_cause.proofs.confirm.{Differs.changed_row, Overdue.old_row, Runs.bare_row, Runs.listed_row, Runs.met_row}
 use Rattle.arj_law_cause.proofs.kinds.Aborts.{abort_row}
 use Rattle.arj_law_cause.proofs.kinds.Committed.{done_row}
 use Rattle.arj_law_cause.proofs.kinds.Denied.{step_fits}
@@ -44,10 +44,8 @@ use Rattle.arj_law_cause.specs.kinds.Kinds.{is_copy_shown, is_denial, is_dropped
 use Rattle.arj_law_cause.specs.kinds.Kinds.{is_granted_entry, is_granted_object, is_halted, is_limit, is_listed_abort, is_lock_lowered}
 use Rattle.arj_law_cause.specs.kinds.Kinds.{is_lost_commit, is_met_abort, is_node_given_up, is_old_abort, is_opening, is_prepared, is_quiet}
 use Rattle.arj_law_cause.specs.kinds.Kinds.{is_sent, is_told, is_up, is_void}
-use Rattle.arj_law_cause.specs.kinds.Rows.{row, tested}
-use Rattle.arj_law_cause.specs.kinds.Tests.{is_changed_so}
+use Rattle.arj_law_cause.specs.kinds.Rows.{row}
 use Rattle.arj_law_cause.specs.rows.Lines.{answer_fits}
-use Rattle.arj_law_cause.specs.told.Lines.{TellsWhy, is_told_why}
 
 -- ---- tests of lines together
 
@@ -140,7 +138,7 @@ others =
     ∷ []
 
 abbrev tests : List Test
-tests = row (λ h. is_node_given_up) ∷ row (λ h. is_old_abort) ∷ tested is_changed_so (λ h. is_changed_abort) ∷ others
+tests = row (λ h. is_node_given_up) ∷ row (λ h. is_old_abort) ∷ row (λ h. is_changed_abort) ∷ others
 
 module _ (hd : Header) (r : Run hd) (form : IsInForm hd r) where
   abbrev Its : Test → Type 0
@@ -236,50 +234,50 @@ module _ (hd : Header) (r : Run hd) (form : IsInForm hd r) where
   all_known : AllByRecursion Its tests
   all_known = (
     (λ h c. refl, given_row hd r form),
-    ((λ h c. refl, old_row hd r form), ((λ h c. refl, changed_test hd r form), others_known)),
+    ((λ h c. refl, old_row hd r form), ((λ h c. refl, changed_row hd r form), others_known)),
   )
 
--- what a line passes says why it stands
-why : (h : Here) (b : Body) → all_of tests h b ≡ true → is_told_why h b ≡ true
-why h (body.Began l k u p) is = (and_parts (is_told_why h (body.Began l k u p)) true is).0
-why h (body.Ok l x op answer) is = (and_parts (is_told_why h (body.Ok l x op answer)) true is).0
-why h (body.Includes l x n) is = (and_parts (is_told_why h (body.Includes l x n)) true is).0
-why h (body.Lost l n) is = (and_parts (is_told_why h (body.Lost l n)) true is).0
-why h (body.Committing l) is = (and_parts (is_told_why h (body.Committing l)) true is).0
-why h (body.Ended l) is = (and_parts (is_told_why h (body.Ended l)) true is).0
-why h (body.Lowered n u o) is = (and_parts (is_told_why h (body.Lowered n u o)) true is).0
-why h (body.Bound x b n) is = (and_parts (is_told_why h (body.Bound x b n)) true is).0
-why h (body.Active n x b) is = (and_parts (is_told_why h (body.Active n x b)) true is).0
-why h (body.Sent k from to carried) is = (and_parts (is_told_why h (body.Sent k from to carried)) true is).0
-why h (body.Got k) is = (and_parts (is_told_why h (body.Got k)) true is).0
-why h (body.Void k) is = (and_parts (is_told_why h (body.Void k)) true is).0
-why h (body.Dropped k) is = (and_parts (is_told_why h (body.Dropped k)) true is).0
-why h (body.Halted n) is = (and_parts (is_told_why h (body.Halted n)) true is).0
-why h (body.Up n i) is = (and_parts (is_told_why h (body.Up n i)) true is).0
-why h (body.Armed n) is = (and_parts (is_told_why h (body.Armed n)) true is).0
-why h (body.Recovered n u) is = (and_parts (is_told_why h (body.Recovered n u)) true is).0
-why h (body.Refused c) is = (and_parts (is_told_why h (body.Refused c)) true is).0
-why h (body.Entry x v servers stores) is = (and_parts (is_told_why h (body.Entry x v servers stores)) true is).0
-why h (body.Copy n x v u payload) is = (and_parts (is_told_why h (body.Copy n x v u payload)) true is).0
-why h (body.Quiet still) is = (and_parts (is_told_why h (body.Quiet still)) true is).0
-why h (body.Limit w) is = (and_parts (is_told_why h (body.Limit w)) (not (is_ending (body.Limit w))) is).0
-why h (body.Done n u q ending.Commit) is = (and_parts (is_told_why h (body.Done n u q ending.Commit)) true is).0
-why h (body.Done n u q ending.Abort) is = (and_parts (is_told_why h (body.Done n u q ending.Abort)) true is).0
-why h (body.Aborted l cause.Asked) is = (and_parts (is_told_why h (body.Aborted l cause.Asked)) true is).0
-why h (body.Aborted l cause.Doomed) is = (and_parts (is_told_why h (body.Aborted l cause.Doomed)) true is).0
-why h (body.Aborted l (cause.Lost n)) is = (and_parts (is_told_why h (body.Aborted l (cause.Lost n))) true is).0
-why h (body.Aborted l (cause.Conflict u m n)) is = (and_parts (is_told_why h (body.Aborted l (cause.Conflict u m n))) true is).0
-why h (body.Aborted l (cause.NoStores x)) is = (and_parts (is_told_why h (body.Aborted l (cause.NoStores x))) true is).0
-why h (body.Aborted l (cause.Listed x n)) is = (and_parts (is_told_why h (body.Aborted l (cause.Listed x n))) true is).0
+-- a line that passes all has its cause
+why : (h : Here) (b : Body) → all_of tests h b ≡ true → has_cause h b ≡ true
+why h (body.Began l k u p) is = (and_parts (has_cause h (body.Began l k u p)) true is).0
+why h (body.Ok l x op answer) is = (and_parts (has_cause h (body.Ok l x op answer)) true is).0
+why h (body.Includes l x n) is = (and_parts (has_cause h (body.Includes l x n)) true is).0
+why h (body.Lost l n) is = (and_parts (has_cause h (body.Lost l n)) true is).0
+why h (body.Committing l) is = (and_parts (has_cause h (body.Committing l)) true is).0
+why h (body.Ended l) is = (and_parts (has_cause h (body.Ended l)) true is).0
+why h (body.Lowered n u o) is = (and_parts (has_cause h (body.Lowered n u o)) true is).0
+why h (body.Bound x b n) is = (and_parts (has_cause h (body.Bound x b n)) true is).0
+why h (body.Active n x b) is = (and_parts (has_cause h (body.Active n x b)) true is).0
+why h (body.Sent k from to carried) is = (and_parts (has_cause h (body.Sent k from to carried)) true is).0
+why h (body.Got k) is = (and_parts (has_cause h (body.Got k)) true is).0
+why h (body.Void k) is = (and_parts (has_cause h (body.Void k)) true is).0
+why h (body.Dropped k) is = (and_parts (has_cause h (body.Dropped k)) true is).0
+why h (body.Halted n) is = (and_parts (has_cause h (body.Halted n)) true is).0
+why h (body.Up n i) is = (and_parts (has_cause h (body.Up n i)) true is).0
+why h (body.Armed n) is = (and_parts (has_cause h (body.Armed n)) true is).0
+why h (body.Recovered n u) is = (and_parts (has_cause h (body.Recovered n u)) true is).0
+why h (body.Refused c) is = (and_parts (has_cause h (body.Refused c)) true is).0
+why h (body.Entry x v servers stores) is = (and_parts (has_cause h (body.Entry x v servers stores)) true is).0
+why h (body.Copy n x v u payload) is = (and_parts (has_cause h (body.Copy n x v u payload)) true is).0
+why h (body.Quiet still) is = (and_parts (has_cause h (body.Quiet still)) true is).0
+why h (body.Limit w) is = (and_parts (has_cause h (body.Limit w)) (not (is_ending (body.Limit w))) is).0
+why h (body.Done n u q ending.Commit) is = (and_parts (has_cause h (body.Done n u q ending.Commit)) true is).0
+why h (body.Done n u q ending.Abort) is = (and_parts (has_cause h (body.Done n u q ending.Abort)) true is).0
+why h (body.Aborted l cause.Asked) is = (and_parts (has_cause h (body.Aborted l cause.Asked)) true is).0
+why h (body.Aborted l cause.Doomed) is = (and_parts (has_cause h (body.Aborted l cause.Doomed)) true is).0
+why h (body.Aborted l (cause.Lost n)) is = (and_parts (has_cause h (body.Aborted l (cause.Lost n))) true is).0
+why h (body.Aborted l (cause.Conflict u m n)) is = (and_parts (has_cause h (body.Aborted l (cause.Conflict u m n))) true is).0
+why h (body.Aborted l (cause.NoStores x)) is = (and_parts (has_cause h (body.Aborted l (cause.NoStores x))) true is).0
+why h (body.Aborted l (cause.Listed x n)) is = (and_parts (has_cause h (body.Aborted l (cause.Listed x n))) true is).0
 why h (body.Conflict l u mode n) is = (and_parts (answer_fits h (body.Conflict l u mode n)) true is).0
 why h (body.Changed l n d) is = (and_parts (answer_fits h (body.Changed l n d)) true is).0
-why h (body.Committed l) is = (and_parts (is_told_why h (body.Committed l)) true is).0
-why h (body.Aborted l (cause.Changed n d)) is = (and_parts (is_changed_so h (body.Aborted l (cause.Changed n d))) true is).0
-why h (body.Aborted l (cause.Old n x v)) is = (and_parts (is_told_why h (body.Aborted l (cause.Old n x v))) true is).0
-why h (body.GaveUp l n) is = (and_parts (is_told_why h (body.GaveUp l n)) true is).0
+why h (body.Committed l) is = (and_parts (has_cause h (body.Committed l)) true is).0
+why h (body.Aborted l (cause.Changed n d)) is = (and_parts (has_cause h (body.Aborted l (cause.Changed n d))) true is).0
+why h (body.Aborted l (cause.Old n x v)) is = (and_parts (has_cause h (body.Aborted l (cause.Old n x v))) true is).0
+why h (body.GaveUp l n) is = (and_parts (has_cause h (body.GaveUp l n)) true is).0
 why h (body.Excluded l x n) is = (and_parts (has_cause h (body.Excluded l x n)) true is).0
-why h (body.Prepared n u r) is = (and_parts (is_told_why h (body.Prepared n u r)) true is).0
-why h (body.Told n u e p) is = (and_parts (is_told_why h (body.Told n u e p)) true is).0
+why h (body.Prepared n u r) is = (and_parts (has_cause h (body.Prepared n u r)) true is).0
+why h (body.Told n u e p) is = (and_parts (has_cause h (body.Told n u e p)) true is).0
 why h (body.Bad n) is = absurd (cc is)
 why h (body.Granted n u o mode) is = by (is_entry o) is
   where
@@ -290,8 +288,13 @@ why h (body.Granted n u o mode) is = by (is_entry o) is
     by false k = (and_parts (has_cause h b) true k).0
     by true k = (and_parts (has_cause h b) true k).0
 
-pub journals_say_why : (hd : Header) (r : Run hd) → IsInForm hd r → Runs (TellsWhy hd) r.start (run_events hd r) (journal_by hd r)
-journals_say_why hd r form = runs_too
-    (λ p e bs. Step hd p e bs × Passes hd r.start (run_events hd r) (journal_by hd r) (all_of tests) p e bs) (TellsWhy hd)
-    (λ p e bs x. so_too (all_of tests) is_told_why why (here_at hd p e bs) bs x.1) r.start (run_events hd r) (journal_by hd r)
+caused_too : (h : Here) (bs : List Body) → are_so has_cause h bs ≡ are_caused h bs
+caused_too h [] = refl
+caused_too h (b ∷ bs) = λ i. has_cause h b && caused_too (behind h b) bs i
+
+pub lines_have_causes : (hd : Header) (r : Run hd) → IsInForm hd r → JHasCauses hd r.start (run_events hd r) (journal_by hd r)
+lines_have_causes hd r form = runs_too
+    (λ p e bs. Step hd p e bs × Passes hd r.start (run_events hd r) (journal_by hd r) (all_of tests) p e bs) (CausesStep hd)
+    (λ p e bs x. sym (caused_too (here_at hd p e bs) bs) ∙ so_too (all_of tests) has_cause why (here_at hd p e bs) bs x.1) r.start
+    (run_events hd r) (journal_by hd r)
     (known hd r.start (run_events hd r) (journal_by hd r) tests (all_known hd r form) (journals_follow hd r form))

@@ -20,7 +20,7 @@ use Rattle.arj_model.specs.CausePends.{has_written}
 use Rattle.arj_model.specs.Serial.{writes_on}
 use Rattle.arj_law_cause.proofs.waits.waiting.Lists.{any_in}
 
-made_of : {A B : Type 0} (f : A → Option B) (x : A) (y : B) (xs : List A) → In x xs → f x ≡ Some y → In y (filter_map f xs)
+pub made_of : {A B : Type 0} (f : A → Option B) (x : A) (y : B) (xs : List A) → In x xs → f x ≡ Some y → In y (filter_map f xs)
 made_of f x y [] i e = absurd i
 made_of f x y (z ∷ xs) (inl is) e = subst (λ o. In y (cons_option o (filter_map f xs))) (sym (ap f is ∙ e)) (inl refl)
 made_of {A} {B} f x y (z ∷ xs) (inr i) e = by (f z) (made_of f x y xs i e)
@@ -29,7 +29,7 @@ made_of {A} {B} f x y (z ∷ xs) (inr i) e = by (f z) (made_of f x y xs i e)
     by None j = j
     by (Some w) j = inr j
 
-all_ids : (p : ℕ → Bool) (path : List Act) → ((b : Act) → In b path → p b.id ≡ true) → list_all p (ids path) ≡ true
+pub all_ids : (p : ℕ → Bool) (path : List Act) → ((b : Act) → In b path → p b.id ≡ true) → list_all p (ids path) ≡ true
 all_ids p [] each = refl
 all_ids p (a ∷ path) each = λ i. each a (inl refl) i && all_ids p path (λ b j. each b (inr j)) i
 

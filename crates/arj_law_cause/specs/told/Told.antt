@@ -4,6 +4,7 @@ use Rattle.std.specs.Prelude.{List}
 use Rattle.arj_journal.specs.declared.body.Line.{Line}
 use Rattle.arj_journal.specs.declared.event.Event.{Event}
 use Rattle.arj_journal.specs.declared.header.Header.{Header}
+use Rattle.arj_model.specs.Caused.{JHasCauses}
 use Rattle.arj_model.specs.Follows.{Follows, Runs}
 use Rattle.arj_start.specs.Start.{Start}
 use Rattle.arj_law_cause.specs.rounds.Alone.{AloneStep}
@@ -11,7 +12,6 @@ use Rattle.arj_law_cause.specs.rounds.Fits.{FewFit}
 use Rattle.arj_law_cause.specs.rounds.Quiesces.{QuiescesStep}
 use Rattle.arj_law_cause.specs.rounds.Rounds.{EndsRounds}
 use Rattle.arj_law_cause.specs.rounds.Sends.{SendsStep}
-use Rattle.arj_law_cause.specs.told.Lines.{TellsWhy}
 use Rattle.arj_law_cause.specs.waits.replies.Ends.{RepliesStep}
 
 -- What quiesces answer, what rounds of them leave, and how many frames events send.
@@ -32,8 +32,8 @@ pub record TellsItsCauses (hd : Header) (st : Start) (es : List Event) (journal 
   -- The journal follows its events: an event is refused for its lowest cause, or as an action is doomed, which the journal dooms; else it
   -- writes its own lines, between them such as may stand there, each answer to what was asked, and its end.
   pub follows : Follows hd st es journal
-  -- each line has its cause, behind the lines before it, but for one kind of which a part of it is known
-  pub causes : Runs (TellsWhy hd) st es journal
+  -- each line has its cause, by the header, by what the run began with, by the events and by the lines before it
+  pub causes : JHasCauses hd st es journal
   -- a line that answers a call or an include is to the one that its action waits for, and behind it that waits for none
   pub replies : Runs (RepliesStep hd) st es journal
   pub quiesces : TellsQuiesces hd st es journal
