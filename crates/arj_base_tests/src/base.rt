@@ -43,20 +43,31 @@ fn is_same(one: &Path, other: &Path) -> bool {
     one.as_slice() == other.as_slice()
 }
 
-fn tops_are_right() -> Option<bool> {
-    let (serializing, constituent, nested) = paths()?;
-    Some(
-        is_same(&nested.top_path(), &constituent)
-            && is_same(&serializing.top_path(), &serializing)
-            && top_by_path(&nested) == object_uid(6),
-    )
+fn tops_are_right() -> bool {
+    match paths() {
+        Some((serializing, constituent, nested)) => are_right(&serializing, &constituent, &nested),
+        None => false,
+    }
+}
+
+fn are_right(serializing: &Path, constituent: &Path, nested: &Path) -> bool {
+    is_same(&nested.top_path(), constituent)
+        && is_same(&serializing.top_path(), serializing)
+        && top_by_path(nested) == object_uid(6)
+}
+
+fn uids_are_right() -> bool {
+    let (six, seven) = (object_uid(6), object_uid(7));
+    stands_before(six, seven) && one_of(six, seven) == seven
+}
+
+fn versions_are_right() -> bool {
+    next_version(1) == 2 && next_version(LAST_VERSION) == LAST_VERSION
 }
 
 #[test]
 fn tops_orders_and_versions(rt: HostRuntime) {
-    assert!(rt; tops_are_right().unwrap_or(false));
-    assert!(rt; stands_before(object_uid(6), object_uid(7)));
-    assert!(rt; one_of(object_uid(6), object_uid(7)) == object_uid(7));
-    assert!(rt; next_version(1) == 2);
-    assert!(rt; next_version(LAST_VERSION) == LAST_VERSION);
+    assert!(rt; tops_are_right());
+    assert!(rt; uids_are_right());
+    assert!(rt; versions_are_right());
 }

@@ -81,21 +81,31 @@ fn answers(alloc: Global, before: Saved, op: &Op, want: &str, after: Saved) -> R
     }
     let (class, payload) = before;
     let mut value = Value::restore_state(alloc, class, Format::Two, payload)?;
-    let told = told(alloc, &mut value, op)?;
-    Ok(told.as_str() == want && is_saved_so(alloc, &value, after)?)
+    tells(alloc, &mut value, op, want, after)
+}
+
+// Whether the value answers so, and is the other then.
+fn tells(alloc: Global, value: &mut Value, op: &Op, want: &str, after: Saved) -> Result<bool, Fail>
+    requires { OpInForm op.now }
+{
+    if told(alloc, value, op)?.as_str() != want {
+        return Ok(false);
+    }
+    Ok(is_saved_so(alloc, value, after)?)
+}
+
+// The bytes of a register.
+const LONG: Saved<'static> = (Class::Register, &[0, 0xff]);
+
+// A register tells its bytes.
+fn a_get_answers(alloc: Global) -> Result<bool, Fail> {
+    answers(alloc, LONG, &Op::Get, "[0, 255]", LONG)
 }
 
 // A register is put.
 fn a_put_answers(alloc: Global) -> Result<bool, Fail> {
     let op = Op::Put(bytes(alloc, &[0, 0xff])?);
-    let after = [0, 0xff].as_slice();
-    answers(
-        alloc,
-        (Class::Register, b"any"),
-        &op,
-        "done",
-        (Class::Register, after),
-    )
+    answers(alloc, (Class::Register, b"any"), &op, "done", LONG)
 }
 
 // A pair of the table takes another value.
@@ -114,7 +124,7 @@ fn a_put_pair_answers(alloc: Global) -> Result<bool, Fail> {
 }
 
 // What leaves the value as it is, of these numbers: each with its answer.
-const ROWS: [(Class, &[u8], &str); 6] = [
+const ROWS: &[(Class, &[u8], &str)] = &[
     (Class::Account, &[5], "short"),
     (Class::Queue, &NUMBERS, "full"),
     (Class::Queue, &[], "none"),
@@ -135,31 +145,26 @@ fn op_at(place: usize) -> Op {
     }
 }
 
-// Whether a value of these numbers answers so, and stays as it is.
-fn keeps(alloc: Global, class: Class, numbers: &[u8], op: &Op, want: &str) -> Result<bool, Fail> {
-    let payload = words(alloc, numbers)?;
-    let saved = (class, payload.as_slice());
-    answers(alloc, saved, op, want, saved)
+// Whether a value of these numbers answers so to the operation at the place, and stays as it is.
+fn keeps(alloc: Global, place: usize, row: &(Class, &[u8], &str)) -> Result<bool, Fail> {
+    let payload = words(alloc, row.1)?;
+    let saved = (row.0, payload.as_slice());
+    answers(alloc, saved, &op_at(place), row.2, saved)
 }
 
 #[test]
 fn classes_answer_as_the_table(rt: HostRuntime) -> Result<(), Fail> {
-    let alloc = rt.alloc();
-    let saved = (Class::Register, [0, 0xff].as_slice());
-    assert!(rt; answers(alloc, saved, &Op::Get, "[0, 255]", saved)?);
-    assert!(rt; a_put_answers(alloc)?);
-    assert!(rt; a_put_pair_answers(alloc)?);
-    for (place, (class, numbers, want)) in ROWS.iter().enumerate() {
-        assert!(rt;
-            keeps(alloc, *class, numbers, &op_at(place), want)?,
-            "{want}"
-        );
+    assert!(rt; a_get_answers(rt.alloc())?);
+    assert!(rt; a_put_answers(rt.alloc())?);
+    assert!(rt; a_put_pair_answers(rt.alloc())?);
+    for (place, row) in ROWS.iter().enumerate() {
+        assert!(rt; keeps(rt.alloc(), place, row)?, "{}", row.2);
     }
     Ok(())
 }
 
 // What each class has of the operations in their order, with a counter's value for `create`: each by a letter for its mode.
-const MODES: [(Class, &[u8]); 7] = [
+const MODES: &[(Class, &[u8])] = &[
     (Class::Counter, b"rww---------ww"),
     (Class::Register, b"r--w---------w"),
     (Class::Account, b"r---ww-------w"),
@@ -199,14 +204,21 @@ fn letter(class: Class, op: &Op) -> u8 {
     }
 }
 
-#[test]
-fn classes_have_their_operations(rt: HostRuntime) -> Result<(), Fail> {
-    for (class, letters) in MODES {
-        for (place, want) in letters.iter().enumerate() {
-            assert_eq!(rt; letter(class, &op_in_order(rt.alloc(), place)), *want);
+// Whether the class does its operations in these modes.
+fn has_modes(alloc: Global, class: Class, letters: &[u8]) -> bool {
+    for (place, want) in letters.iter().enumerate() {
+        if letter(class, &op_in_order(alloc, place)) != *want {
+            return false;
         }
     }
-    Ok(())
+    true
+}
+
+#[test]
+fn classes_have_their_operations(rt: HostRuntime) {
+    for (class, letters) in MODES {
+        assert!(rt; has_modes(rt.alloc(), *class, letters));
+    }
 }
 
 // A counter of value 7, and one that is gone.
@@ -217,7 +229,9 @@ const NO_COUNTER: Saved<'static> = (Class::Gone, &[1]);
 const NO_QUEUE: Saved<'static> = (Class::Gone, &[4]);
 
 // How objects come and go: what was, the place of the operation in their order, its answer, and what is.
-const COMING: [(Saved<'static>, usize, &str, Saved<'static>); 8] = [
+type Coming = (Saved<'static>, usize, &'static str, Saved<'static>);
+
+const COMING: &[Coming] = &[
     (NO_COUNTER, 0, "gone", NO_COUNTER),
     (NO_COUNTER, 7, "the class lacks this operation", NO_COUNTER),
     (NO_COUNTER, 12, "done", SEVEN),
@@ -228,14 +242,14 @@ const COMING: [(Saved<'static>, usize, &str, Saved<'static>); 8] = [
     (SEVEN, 13, "done", NO_COUNTER),
 ];
 
+fn comes_so(alloc: Global, row: &Coming) -> Result<bool, Fail> {
+    answers(alloc, row.0, &op_in_order(alloc, row.1), row.2, row.3)
+}
+
 #[test]
 fn objects_come_and_go(rt: HostRuntime) -> Result<(), Fail> {
-    let alloc = rt.alloc();
-    for (before, place, want, after) in COMING {
-        assert!(rt;
-            answers(alloc, before, &op_in_order(alloc, place), want, after)?,
-            "{want}"
-        );
+    for row in COMING {
+        assert!(rt; comes_so(rt.alloc(), row)?, "{}", row.2);
     }
     Ok(())
 }
@@ -272,33 +286,55 @@ fn restores(
     }
 }
 
+// Lengths of registers, and whether the format holds them.
+const LENGTHS: &[(Format, usize, bool)] = &[
+    (Format::One, 64, true),
+    (Format::One, 65, false),
+    (Format::Two, 192, true),
+    (Format::Two, 193, false),
+];
+
 #[test]
 fn registers_are_longer_in_format_two(rt: HostRuntime) -> Result<(), Fail> {
-    for (format, most) in [(Format::One, 64), (Format::Two, 192)] {
-        assert!(rt; restores(rt.alloc(), Class::Register, format, most)?);
-        assert!(rt; !restores(rt.alloc(), Class::Register, format, most + 1)?);
+    for (format, length, want) in LENGTHS {
+        assert!(rt; restores(rt.alloc(), Class::Register, *format, *length)? == *want);
     }
     Ok(())
 }
 
+// Payloads that are out of form.
+const OTHERS: &[Saved<'static>] = &[
+    (
+        Class::Table,
+        &[
+            0, 0, 0, 0, 0, 0, 0, 2, 0, 0, 0, 0, 0, 0, 0, 2, 0, 0, 0, 0, 0, 0, 0, 1, 0, 0, 0, 0, 0,
+            0, 0, 1,
+        ],
+    ),
+    (Class::Counter, &[0; 7]),
+    (Class::Entry, &[]),
+    (Class::Gone, &[0]),
+    (Class::Gone, &[6]),
+    (Class::Gone, &[1, 1]),
+];
+
+// Whether the payload is refused, with these words.
+fn is_refused(alloc: Global, saved: Saved, words: &str) -> Result<bool, Fail> {
+    match Value::restore_state(alloc, saved.0, Format::Two, saved.1) {
+        Ok(_) => Ok(false),
+        Err(fault) => Ok(format!(in alloc; "{fault}")?.as_str() == words),
+    }
+}
+
 #[test]
 fn payloads_out_of_form_are_refused(rt: HostRuntime) -> Result<(), Fail> {
-    let alloc = rt.alloc();
-    let falling = words(alloc, &[2, 2, 1, 1])?;
-    for (class, payload) in [
-        (Class::Table, falling.as_slice()),
-        (Class::Counter, [0; 7].as_slice()),
-        (Class::Entry, &[]),
-        (Class::Gone, &[0]),
-        (Class::Gone, &[6]),
-        (Class::Gone, &[1, 1]),
-    ] {
-        let Err(fault) = Value::restore_state(alloc, class, Format::Two, payload) else {
-            return Err(Fail::new("restored"));
-        };
-        assert_eq!(rt;
-            format!(in alloc; "{fault}")?.as_str(),
-            "not the payload of a value of this class"
+    for saved in OTHERS {
+        assert!(rt;
+            is_refused(
+                rt.alloc(),
+                *saved,
+                "not the payload of a value of this class"
+            )?
         );
     }
     Ok(())

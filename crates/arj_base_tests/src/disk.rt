@@ -169,17 +169,32 @@ fn go_on<D: Disk>(disk: &mut D) -> Result<(), DiskFault> {
     disk.remove(Slot::Tmp)
 }
 
+// Whether the disk goes on so.
+fn goes_on(alloc: Global, disk: &mut MemDisk) -> Result<bool, DiskFault> {
+    go_on(disk)?;
+    if !has(alloc, disk, Slot::Committed(ONE), b"new".as_slice())? {
+        return Ok(false);
+    }
+    if !has(alloc, disk, Slot::Committed(TWO), b"old".as_slice())? {
+        return Ok(false);
+    }
+    has_names(alloc, disk, LEFT)
+}
+
+// Whether it has its names, and goes on so.
+fn begins_and_goes_on(alloc: Global) -> Result<bool, DiskFault> {
+    let mut disk = begin(alloc, SLOTS)?;
+    if !has_names(alloc, &mut disk, SLOTS)? {
+        return Ok(false);
+    }
+    goes_on(alloc, &mut disk)
+}
+
 #[test]
 fn calls_in_a_row(rt: HostRuntime) -> Result<(), Fail> {
-    let alloc = rt.alloc();
-    assert!(rt; are_in_order(SLOTS));
     few_known(ONE, TWO);
-    let mut disk = begin(alloc, SLOTS)?;
-    assert!(rt; has_names(alloc, &mut disk, SLOTS)?);
-    go_on(&mut disk)?;
-    assert!(rt; has(alloc, &mut disk, Slot::Committed(ONE), b"new".as_slice())?);
-    assert!(rt; has(alloc, &mut disk, Slot::Committed(TWO), b"old".as_slice())?);
-    assert!(rt; has_names(alloc, &mut disk, LEFT)?);
+    assert!(rt; are_in_order(SLOTS));
+    assert!(rt; begins_and_goes_on(rt.alloc())?);
     Ok(())
 }
 
@@ -227,44 +242,78 @@ fn has_left<D: Disk>(
     has(alloc, disk, Slot::Committed(ONE), want)
 }
 
+// The call that the arm names, counted from it, its outcome, and the two files after a put: a write and a rename.
+type Armed = (u32, u8, &'static [u8], &'static [u8]);
+
+const ARMED: &[Armed] = &[
+    (1, 0, b"old", b""),
+    (1, 1, b"old", b"new"),
+    (1, 2, b"old", b"xy"),
+    (2, 0, b"old", b"new"),
+    (2, 1, b"new", b""),
+    (2, 2, b"old", b"new"),
+    (3, 0, b"new", b""),
+];
+
+// Whether a put over this disk is done as it should be, and leaves these files.
+fn puts_and_leaves(alloc: Global, disk: &mut MemDisk, row: &Armed) -> Result<bool, DiskFault> {
+    if !puts(disk, row.0 == 3)? {
+        return Ok(false);
+    }
+    has_left(alloc, disk, row.2, row.3)
+}
+
+fn is_put_so(alloc: Global, row: &Armed) -> Result<bool, DiskFault> {
+    let mut disk = armed_disk(alloc, row.0.max(1), row.1)?;
+    puts_and_leaves(alloc, &mut disk, row)
+}
+
 #[test]
 fn a_put_is_done_or_not(rt: HostRuntime) -> Result<(), Fail> {
-    // The call that the arm names, counted from it, its outcome, and the two files after a put: a write and a rename.
-    for (calls, kind, want, tmp) in [
-        (1, 0, b"old".as_slice(), b"".as_slice()),
-        (1, 1, b"old".as_slice(), b"new".as_slice()),
-        (1, 2, b"old".as_slice(), b"xy".as_slice()),
-        (2, 0, b"old".as_slice(), b"new".as_slice()),
-        (2, 1, b"new".as_slice(), b"".as_slice()),
-        (2, 2, b"old".as_slice(), b"new".as_slice()),
-        (3, 0, b"new".as_slice(), b"".as_slice()),
-    ] {
-        let mut disk = armed_disk(rt.alloc(), calls, kind)?;
-        assert!(rt; puts(&mut disk, calls == 3)?);
-        assert!(rt; has_left(rt.alloc(), &mut disk, want, tmp)?);
+    for row in ARMED {
+        assert!(rt; is_put_so(rt.alloc(), row)?);
     }
     Ok(())
+}
+
+// Gives three nodes of a rack their files, and takes one again.
+fn put_in(rack: &mut Rack<MemDisk>) -> Result<(), DiskFault> {
+    for node in [1u8, 2, 16] {
+        put(rack.disk(node), Slot::Incarnation, [node].as_slice())?;
+    }
+    remove_at(rack, 2, Slot::Incarnation)
+}
+
+// Whether each of these nodes has its file as it should.
+fn has_where(alloc: Global, rack: &mut Rack<MemDisk>) -> Result<bool, DiskFault> {
+    for (node, want) in [(1u8, true), (2, false), (3, false), (16, true)] {
+        if has(alloc, rack.disk(node), Slot::Incarnation, [node].as_slice())? != want {
+            return Ok(false);
+        }
+    }
+    Ok(true)
+}
+
+fn a_rack_has_its_files(alloc: Global) -> Result<bool, DiskFault> {
+    let mut rack = Rack::new(sixteen(alloc)?);
+    put_in(&mut rack)?;
+    has_where(alloc, &mut rack)
 }
 
 #[test]
 fn one_disk_of_a_rack(rt: HostRuntime) -> Result<(), Fail> {
-    let alloc = rt.alloc();
-    let mut rack = Rack::new(sixteen(alloc)?);
-    for node in [1u8, 2, 16] {
-        put(rack.disk(node), Slot::Incarnation, [node].as_slice())?;
-    }
-    remove_at(&mut rack, 2, Slot::Incarnation)?;
-    for (node, want) in [(1u8, true), (2, false), (3, false), (16, true)] {
-        let found = has(alloc, rack.disk(node), Slot::Incarnation, [node].as_slice())?;
-        assert_eq!(rt; found, want);
-    }
+    assert!(rt; a_rack_has_its_files(rt.alloc())?);
     Ok(())
+}
+
+fn a_new_disk_is_done(alloc: Global) -> Result<bool, AllocError> {
+    let mut disk = new_armed(alloc, Outcome::Undone);
+    was_done(put(&mut disk, Slot::Incarnation, b"1".as_slice()))
 }
 
 #[test]
 fn an_armed_disk_stops(rt: HostRuntime) -> Result<(), Fail> {
-    let mut disk = new_armed(rt.alloc(), Outcome::Undone);
-    assert!(rt; !was_done(put(&mut disk, Slot::Incarnation, b"1".as_slice()))?);
+    assert!(rt; !a_new_disk_is_done(rt.alloc())?);
     Ok(())
 }
 
@@ -276,13 +325,23 @@ fn call_surely(disk: &mut SureDisk) -> Result<(), DiskFault> {
     disk.remove(Slot::Intent(object_uid(1)))
 }
 
-#[test]
-fn a_sure_disk_does_not_stop(rt: HostRuntime) -> Result<(), Fail> {
-    let alloc = rt.alloc();
+// Whether such a disk has what was put, and no more.
+fn calls_are_done(alloc: Global, disk: &mut SureDisk) -> Result<bool, DiskFault> {
+    call_surely(disk)?;
+    if !has(alloc, disk, Slot::Incarnation, b"1".as_slice())? {
+        return Ok(false);
+    }
+    has_names(alloc, disk, [Slot::Incarnation].as_slice())
+}
+
+fn armed_calls_are_done(alloc: Global) -> Result<bool, DiskFault> {
     let mut disk = SureDisk::new(alloc);
     disk.arm(1, Outcome::Undone);
-    call_surely(&mut disk)?;
-    assert!(rt; has(alloc, &mut disk, Slot::Incarnation, b"1".as_slice())?);
-    assert!(rt; has_names(alloc, &mut disk, [Slot::Incarnation].as_slice())?);
+    calls_are_done(alloc, &mut disk)
+}
+
+#[test]
+fn a_sure_disk_does_not_stop(rt: HostRuntime) -> Result<(), Fail> {
+    assert!(rt; armed_calls_are_done(rt.alloc())?);
     Ok(())
 }

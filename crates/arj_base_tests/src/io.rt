@@ -35,30 +35,39 @@ fn gives<S: Source>(source: &mut S, reads: &[Given]) -> bool {
     true
 }
 
+const PLANNED: &[Given] = &[
+    (Some(2), *b"ab.."),
+    (None, *b"...."),
+    (Some(2), *b"cd.."),
+    (Some(1), *b"e..."),
+    (Some(0), *b"...."),
+];
+
+fn gives_as_planned(alloc: Global) -> Result<bool, AllocError> {
+    let mut source = MemSource::new(bytes(alloc, b"abcde")?, 2, second(alloc)?);
+    Ok(gives(&mut source, PLANNED))
+}
+
 #[test]
 fn a_source_gives_pieces_and_fails_as_planned(rt: HostRuntime) -> Result<(), Fail> {
-    let alloc = rt.alloc();
-    let reads = [
-        (Some(2), *b"ab.."),
-        (None, *b"...."),
-        (Some(2), *b"cd.."),
-        (Some(1), *b"e..."),
-        (Some(0), *b"...."),
-    ];
-    let mut source = MemSource::new(bytes(alloc, b"abcde")?, 2, second(alloc)?);
-    assert!(rt; gives(&mut source, &reads));
+    assert!(rt; gives_as_planned(rt.alloc())?);
     Ok(())
+}
+
+const SURE: &[Given] = &[
+    (Some(4), *b"abcd"),
+    (Some(1), *b"e..."),
+    (Some(0), *b"...."),
+];
+
+fn gives_surely(alloc: Global) -> Result<bool, AllocError> {
+    let mut source = SureSource::new(bytes(alloc, b"abcde")?);
+    Ok(gives(&mut source, SURE))
 }
 
 #[test]
 fn a_sure_source_fills_what_it_is_given(rt: HostRuntime) -> Result<(), Fail> {
-    let reads = [
-        (Some(4), *b"abcd"),
-        (Some(1), *b"e..."),
-        (Some(0), *b"...."),
-    ];
-    let mut source = SureSource::new(bytes(rt.alloc(), b"abcde")?);
-    assert!(rt; gives(&mut source, &reads));
+    assert!(rt; gives_surely(rt.alloc())?);
     Ok(())
 }
 
@@ -70,18 +79,27 @@ fn takes(sink: &mut MemSink, bytes: &[u8], end: Result<(), Failed>, taken: &[u8]
     sink.taken() == Some(taken)
 }
 
+// Bytes, whether a sink takes them, and what it has taken then.
+const TAKEN: &[(&[u8], Result<(), Failed>, &[u8])] = &[
+    (b"abc", Ok(()), b"abc"),
+    (b"", Ok(()), b"abc"),
+    (b"de", Err(Failed), b"abc"),
+    (b"f", Ok(()), b"abcf"),
+];
+
+fn takes_as_planned(alloc: Global) -> Result<bool, AllocError> {
+    let mut sink = MemSink::new(bytes(alloc, b"........")?, second(alloc)?);
+    for (bytes, end, taken) in TAKEN {
+        if !takes(&mut sink, bytes, *end, taken) {
+            return Ok(false);
+        }
+    }
+    Ok(true)
+}
+
 #[test]
 fn a_sink_fails_as_planned(rt: HostRuntime) -> Result<(), Fail> {
-    let alloc = rt.alloc();
-    let mut sink = MemSink::new(bytes(alloc, b"........")?, second(alloc)?);
-    for (bytes, end, taken) in [
-        (b"abc".as_slice(), Ok(()), b"abc".as_slice()),
-        (b"", Ok(()), b"abc"),
-        (b"de", Err(Failed), b"abc"),
-        (b"f", Ok(()), b"abcf"),
-    ] {
-        assert!(rt; takes(&mut sink, bytes, end, taken));
-    }
+    assert!(rt; takes_as_planned(rt.alloc())?);
     Ok(())
 }
 
@@ -96,17 +114,27 @@ fn takes_surely(sink: &mut SureSink, piece: &[u8], told: Option<&[u8]>) -> bool 
     }
 }
 
+// Pieces, and what a sink tells behind each.
+const TOLD: &[(&[u8], Option<&[u8]>)] = &[
+    (b"ab", Some(b"ab")),
+    (b"cd", Some(b"abcd")),
+    (b"ef", None),
+    (b"g", None),
+];
+
+fn takes_each(alloc: Global) -> Result<bool, AllocError> {
+    let mut sink = SureSink::new(bytes(alloc, b"....")?);
+    for (piece, told) in TOLD {
+        if !takes_surely(&mut sink, piece, *told) {
+            return Ok(false);
+        }
+    }
+    Ok(true)
+}
+
 #[test]
 fn a_sink_tells_nothing_past_its_room(rt: HostRuntime) -> Result<(), Fail> {
-    let mut sink = SureSink::new(bytes(rt.alloc(), b"....")?);
-    for (piece, told) in [
-        (b"ab".as_slice(), Some(b"ab".as_slice())),
-        (b"cd", Some(b"abcd")),
-        (b"ef", None),
-        (b"g", None),
-    ] {
-        assert!(rt; takes_surely(&mut sink, piece, told));
-    }
+    assert!(rt; takes_each(rt.alloc())?);
     Ok(())
 }
 
@@ -131,20 +159,38 @@ impl Write for Broken {
 }
 
 // Each error is a fault, also one behind another.
+const BROKEN: &[Given] = &[(Some(3), *b"abc."), (None, *b"...."), (None, *b"....")];
+
+fn a_broken_reader_gives() -> bool {
+    let mut source = StdSource::new(b"abc".as_slice().chain(Broken));
+    gives(&mut source, BROKEN)
+}
+
 #[test]
 fn a_reader_is_a_source(rt: HostRuntime) {
-    let reads = [(Some(3), *b"abc."), (None, *b"...."), (None, *b"....")];
-    let mut source = StdSource::new(b"abc".as_slice().chain(Broken));
-    assert!(rt; gives(&mut source, &reads));
+    assert!(rt; a_broken_reader_gives());
+}
+
+// Whether a sink over these bytes takes two and, since a full slice takes nothing, then one of two.
+fn fills(room: &mut [u8]) -> bool {
+    let mut sink = StdSink::new(room);
+    if write_all(&mut sink, b"ab") != Ok(()) {
+        return false;
+    }
+    write_all(&mut sink, b"cd") == Err(Failed)
+}
+
+fn a_slice_fills() -> bool {
+    let mut room = *b"...";
+    fills(room.as_mut_slice()) && room == *b"abc"
+}
+
+fn a_broken_writer_fails() -> bool {
+    write_all(&mut StdSink::new(Broken), b"ab") == Err(Failed)
 }
 
 #[test]
 fn a_writer_is_a_sink(rt: HostRuntime) {
-    let mut room = *b"...";
-    let mut sink = StdSink::new(room.as_mut_slice());
-    assert_eq!(rt; write_all(&mut sink, b"ab"), Ok(()));
-    // A full slice takes nothing.
-    assert_eq!(rt; write_all(&mut sink, b"cd"), Err(Failed));
-    assert_eq!(rt; room, *b"abc");
-    assert_eq!(rt; write_all(&mut StdSink::new(Broken), b"ab"), Err(Failed));
+    assert!(rt; a_slice_fills());
+    assert!(rt; a_broken_writer_fails());
 }

@@ -93,17 +93,34 @@ fn two_go_with_the_third(alloc: Global, table: &mut LockTable) -> Result<bool, A
     Ok(!holds_after_close(table, object_uid(4), action(1)))
 }
 
+// The paths of action 1, of 3 in it, and of 2 in that.
+fn path_below(num: u64) -> Result<Path, AllocError> {
+    let first = Path::new(action(1));
+    match num {
+        1 => Ok(first),
+        3 => nested(&first, 3, false),
+        _ => nested(&nested(&first, 3, false)?, 2, false),
+    }
+}
+
+// Whether each of these actions gets a lock on the object.
+fn all_get(table: &mut LockTable) -> Result<bool, AllocError> {
+    for (num, object) in [(2, 1), (3, 2), (2, 3), (1, 4)] {
+        if !gets(table, &path_below(num)?, object) {
+            return Ok(false);
+        }
+    }
+    Ok(true)
+}
+
+fn locks_come_and_go(alloc: Global) -> Result<bool, AllocError> {
+    let mut table = LockTable::new(alloc);
+    Ok(all_get(&mut table)? && two_go_with_the_third(alloc, &mut table)?)
+}
+
 #[test]
 fn callers_get_what_they_need(rt: HostRuntime) -> Result<(), Fail> {
-    let alloc = rt.alloc();
-    let mut table = LockTable::new(alloc);
-    let first = Path::new(action(1));
-    let below = nested(&first, 3, false)?;
-    let deeper = nested(&below, 2, false)?;
-    for (path, object) in [(&deeper, 1), (&below, 2), (&deeper, 3), (&first, 4)] {
-        assert!(rt; gets(&mut table, path, object));
-    }
-    assert!(rt; two_go_with_the_third(alloc, &mut table)?);
+    assert!(rt; locks_come_and_go(rt.alloc())?);
     Ok(())
 }
 
@@ -259,15 +276,28 @@ fn are_tops(held: &[Uid], nums: &[u64]) -> bool {
     true
 }
 
-#[test]
-fn calls_in_a_row(rt: HostRuntime) -> Result<(), Fail> {
-    let alloc = rt.alloc();
-    for parts in [READERS, CONSTITUENT] {
-        let mut table = LockTable::new(alloc);
-        for (calls, tops) in parts {
-            assert!(rt; has_answers(&mut table, calls)?);
-            assert!(rt; are_tops(table.held(alloc)?.as_slice(), tops));
+// Whether the calls of a part have their answers, and the tops that hold locks behind them are these.
+fn goes_so(alloc: Global, table: &mut LockTable, part: &Part) -> Result<bool, AllocError> {
+    if !has_answers(table, part.0)? {
+        return Ok(false);
+    }
+    Ok(are_tops(table.held(alloc)?.as_slice(), part.1))
+}
+
+// Whether the parts go so, one after another.
+fn go_so(alloc: Global, parts: &[Part]) -> Result<bool, AllocError> {
+    let mut table = LockTable::new(alloc);
+    for part in parts {
+        if !goes_so(alloc, &mut table, part)? {
+            return Ok(false);
         }
     }
+    Ok(true)
+}
+
+#[test]
+fn calls_in_a_row(rt: HostRuntime) -> Result<(), Fail> {
+    assert!(rt; go_so(rt.alloc(), READERS)?);
+    assert!(rt; go_so(rt.alloc(), CONSTITUENT)?);
     Ok(())
 }

@@ -51,46 +51,87 @@ fn make(alloc: Global, net: &mut Net, change: Change) -> Result<bool, Fail> {
     Ok(true)
 }
 
+// Changes, and the lowest frame behind each.
+const CHANGES: &[(Change, Option<u32>)] = &[
+    (Change::Send(1, 2), Some(1)),
+    (Change::Send(2, 1), Some(1)),
+    (Change::Send(1, 3), Some(1)),
+    (Change::Lose(2), Some(1)),
+    (Change::Deliver(0), Some(1)),
+    (Change::Lose(4), Some(1)),
+    (Change::Deliver(1), Some(3)),
+    (Change::Deliver(2), Some(3)),
+    (Change::Deliver(1), Some(3)),
+    (Change::Deliver(3), None),
+    (Change::Send(3, 1), Some(4)),
+    (Change::Lose(4), None),
+];
+
+// The frames that were sent, by their numbers.
+const SENT: &[(u32, u8, u8)] = &[(1, 1, 2), (2, 2, 1), (3, 1, 3), (4, 3, 1)];
+
+// Whether the net is made so by the changes.
+fn changes_so(alloc: Global, net: &mut Net) -> Result<bool, Fail> {
+    for (change, lowest) in CHANGES {
+        if !make(alloc, net, *change)? || net.lowest() != *lowest {
+            return Ok(false);
+        }
+    }
+    Ok(true)
+}
+
+// Whether it has the frames that were sent, and no others.
+fn has_sent(net: &Net) -> bool {
+    for (k, from, to) in SENT {
+        if !has_frame(net, *k, *from, *to) {
+            return false;
+        }
+    }
+    net.get(0).is_none() && net.get(5).is_none()
+}
+
+fn a_net_changes_so(alloc: Global) -> Result<bool, Fail> {
+    let mut net = Net::new(alloc);
+    if has_open(&net) || !changes_so(alloc, &mut net)? {
+        return Ok(false);
+    }
+    Ok(has_sent(&net))
+}
+
 #[test]
 fn frames_are_told_apart_by_number(rt: HostRuntime) -> Result<(), Fail> {
-    let alloc = rt.alloc();
-    let mut net = Net::new(alloc);
-    assert!(rt; !has_open(&net));
-    for (row, lowest) in [
-        (Change::Send(1, 2), Some(1)),
-        (Change::Send(2, 1), Some(1)),
-        (Change::Send(1, 3), Some(1)),
-        (Change::Lose(2), Some(1)),
-        (Change::Deliver(0), Some(1)),
-        (Change::Lose(4), Some(1)),
-        (Change::Deliver(1), Some(3)),
-        (Change::Deliver(2), Some(3)),
-        (Change::Deliver(1), Some(3)),
-        (Change::Deliver(3), None),
-        (Change::Send(3, 1), Some(4)),
-        (Change::Lose(4), None),
-    ] {
-        assert!(rt; make(alloc, &mut net, row)? && net.lowest() == lowest);
-    }
-    for (k, from, to) in [(1, 1, 2), (2, 2, 1), (3, 1, 3), (4, 3, 1)] {
-        assert!(rt; has_frame(&net, k, from, to));
-    }
-    assert!(rt; net.get(0).is_none() && net.get(5).is_none());
+    assert!(rt; a_net_changes_so(rt.alloc())?);
     Ok(())
+}
+
+// Whether each frame that is sent gets its number, and one past the most is not taken.
+fn fills(alloc: Global, net: &mut Net) -> Result<bool, Fail> {
+    for k in 1..100_001u32 {
+        if net.send(1, 2, Bytes::new(alloc))? != k {
+            return Ok(false);
+        }
+    }
+    Ok(matches!(net.send(1, 2, Bytes::new(alloc)), Err(NetFault::Full)))
+}
+
+// Whether the first is the lowest until it is delivered, last of all.
+fn empties(net: &mut Net) -> bool {
+    for k in (1..100_001u32).rev() {
+        if net.lowest() != Some(1) {
+            return false;
+        }
+        net.delivered(k);
+    }
+    net.lowest().is_none()
+}
+
+fn fills_and_empties(alloc: Global) -> Result<bool, Fail> {
+    let mut net = Net::new(alloc);
+    Ok(fills(alloc, &mut net)? && empties(&mut net))
 }
 
 #[test]
 fn a_net_takes_100_000_frames(rt: HostRuntime) -> Result<(), Fail> {
-    let alloc = rt.alloc();
-    let mut net = Net::new(alloc);
-    for k in 1..100_001u32 {
-        assert_eq!(rt; net.send(1, 2, Bytes::new(alloc))?, k);
-    }
-    assert!(rt; matches!(net.send(1, 2, Bytes::new(alloc)), Err(NetFault::Full)));
-    for k in (1..100_001u32).rev() {
-        assert_eq!(rt; net.lowest(), Some(1));
-        net.delivered(k);
-    }
-    assert_eq!(rt; net.lowest(), None);
+    assert!(rt; fills_and_empties(rt.alloc())?);
     Ok(())
 }

@@ -195,36 +195,63 @@ fn ends_so(
     forgot && calls.as_slice() == want
 }
 
+// The objects, and the action that ends.
+const ONE: Uid = Uid {
+    node: 0,
+    inc: 0,
+    num: 1,
+};
+
+const TWO: Uid = Uid {
+    node: 0,
+    inc: 0,
+    num: 2,
+};
+
+const TOP: Uid = Uid {
+    node: 1,
+    inc: 1,
+    num: 1,
+};
+
+// The object that is forgotten before the end, 0 for none; whether the end is a commit; and what the scene gets.
+type Ending = (u16, bool, &'static [Got]);
+
+const ENDS: &[Ending] = &[
+    (
+        0,
+        false,
+        &[
+            Got::Restore(ONE, 7),
+            Got::Restore(TWO, 20),
+            Got::Release(TOP),
+        ],
+    ),
+    (
+        0,
+        true,
+        &[Got::Pass(TOP), Got::Raise(ONE, TOP), Got::Raise(TWO, TOP)],
+    ),
+    (1, false, &[Got::Restore(TWO, 20), Got::Release(TOP)]),
+    (1, true, &[Got::Pass(TOP), Got::Raise(TWO, TOP)]),
+];
+
+fn ends_twice_merged(alloc: Global, end: &Ending) -> Result<bool, AllocError> {
+    Ok(ends_so(alloc, merged_twice(alloc)?, end.0, end.1, end.2))
+}
+
+// Whether the scene gets nothing where an empty list ends.
+fn ends_empty(alloc: Global, commits: bool) -> bool {
+    calls_of(alloc, RecordList::new(alloc), commits).is_empty()
+}
+
 #[test]
 fn two_merges_and_an_end(rt: HostRuntime) -> Result<(), Fail> {
-    let alloc = rt.alloc();
-    let one = object_uid(1);
-    let two = object_uid(2);
-    let top = action(1);
-    // The object that is forgotten before the end, 0 for none; whether the end is a commit; and what the scene gets.
-    let cases: [(u16, bool, &[Got]); 4] = [
-        (
-            0,
-            false,
-            &[
-                Got::Restore(one, 7),
-                Got::Restore(two, 20),
-                Got::Release(top),
-            ],
-        ),
-        (
-            0,
-            true,
-            &[Got::Pass(top), Got::Raise(one, top), Got::Raise(two, top)],
-        ),
-        (1, false, &[Got::Restore(two, 20), Got::Release(top)]),
-        (1, true, &[Got::Pass(top), Got::Raise(two, top)]),
-    ];
-    for (gone, commits, want) in cases {
-        assert!(rt; ends_so(alloc, merged_twice(alloc)?, gone, commits, want));
+    for end in ENDS {
+        assert!(rt; ends_twice_merged(rt.alloc(), end)?);
     }
-    assert!(rt; calls_of(alloc, RecordList::new(alloc), false).is_empty());
-    assert!(rt; calls_of(alloc, RecordList::new(alloc), true).is_empty());
+    assert!(rt; ends_empty(rt.alloc(), false));
+    assert!(rt; ends_empty(rt.alloc(), true));
     Ok(())
 }
 
@@ -285,24 +312,29 @@ fn ends_with(alloc: Global, order: u8, operation: u8, want: &[Got]) -> bool {
     calls_of_one(alloc, record_of(order, 1), operation).as_slice() == want
 }
 
+// The order; what a top-level commit stores; and what the scene gets at an abort and at a top-level commit.
+type Alone = (u8, Option<Uid>, &'static [Got], &'static [Got]);
+
+const RECORDS: &[Alone] = &[
+    (1, None, &[Got::Restore(ONE, 5)], &[]),
+    (2, None, &[Got::Release(TOP)], &[Got::Pass(TOP)]),
+    (3, Some(ONE), &[], &[Got::Raise(ONE, TOP)]),
+];
+
+// Whether the record of this order stores that, and merges as it should.
+fn is_alone(alloc: Global, order: u8, stores: Option<Uid>) -> bool {
+    let one = record_of(order, 1);
+    let right = stored(&one, order) == Some(stores) && merges_with_its_kind(alloc, &one, order);
+    calls_of_one(alloc, one, 0);
+    right
+}
+
 #[test]
 fn each_record_by_itself(rt: HostRuntime) {
-    let alloc = rt.alloc();
-    let object = object_uid(1);
-    let top = action(1);
-    // The order; what a top-level commit stores; and what the scene gets at an abort and at a top-level commit.
-    let cases: [(u8, Option<Uid>, &[Got], &[Got]); 3] = [
-        (1, None, &[Got::Restore(object, 5)], &[]),
-        (2, None, &[Got::Release(top)], &[Got::Pass(top)]),
-        (3, Some(object), &[], &[Got::Raise(object, top)]),
-    ];
-    for (order, stores, undone, kept) in cases {
-        let one = record_of(order, 1);
-        assert!(rt; stored(&one, order) == Some(stores));
-        assert!(rt; merges_with_its_kind(alloc, &one, order));
-        calls_of_one(alloc, one, 0);
-        assert!(rt; ends_with(alloc, order, 0, undone));
-        assert!(rt; ends_with(alloc, order, 1, undone));
-        assert!(rt; ends_with(alloc, order, 2, kept));
+    for (order, stores, undone, kept) in RECORDS {
+        assert!(rt; is_alone(rt.alloc(), *order, *stores));
+        assert!(rt; ends_with(rt.alloc(), *order, 0, undone));
+        assert!(rt; ends_with(rt.alloc(), *order, 1, undone));
+        assert!(rt; ends_with(rt.alloc(), *order, 2, kept));
     }
 }

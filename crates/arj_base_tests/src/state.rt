@@ -74,43 +74,77 @@ fn unpacks_to(alloc: Global, bytes: &[u8], class: Class, format: Format) -> Resu
     Ok(is_that_state(&unpack(alloc, bytes)?, class, format))
 }
 
+// So many of these bytes, with this one at this place. Zeros stand behind their end.
+fn altered(
+    alloc: Global,
+    packed: &[u8],
+    length: usize,
+    change: (usize, u8),
+) -> Result<Bytes, Fail> {
+    let mut bytes = Bytes::new(alloc);
+    for place in 0..length {
+        bytes.push(byte_at(packed, place, change))?;
+    }
+    Ok(bytes)
+}
+
+fn byte_at(packed: &[u8], place: usize, change: (usize, u8)) -> u8 {
+    if place == change.0 {
+        return change.1;
+    }
+    packed.get(place).copied().unwrap_or(0)
+}
+
+// The packed state of an object that is gone.
+fn gone_unpacks(alloc: Global) -> Result<bool, Fail> {
+    let gone = altered(alloc, &PACKED, PACKED.len(), (20, 6))?;
+    unpacks_to(alloc, gone.as_slice(), Class::Gone, Format::One)
+}
+
+fn is_text_of_writer(alloc: Global, text: &[u8]) -> Result<bool, Fail> {
+    Ok(WRITER.text(alloc)?.as_slice() == text)
+}
+
 #[test]
 fn unpacks(rt: HostRuntime) -> Result<(), Fail> {
-    let mut gone = PACKED;
-    gone[20] = 6;
     assert!(rt; unpacks_to(rt.alloc(), &PACKED, Class::Counter, Format::One)?);
     assert!(rt; unpacks_to(rt.alloc(), &PACKED_TWO, Class::Counter, Format::Two)?);
-    assert!(rt; unpacks_to(rt.alloc(), &gone, Class::Gone, Format::One)?);
-    let writer = WRITER.text(rt.alloc())?;
-    assert_eq!(rt; writer.as_slice(), b"1.1.1".as_slice());
+    assert!(rt; gone_unpacks(rt.alloc())?);
+    assert!(rt; is_text_of_writer(rt.alloc(), b"1.1.1")?);
     Ok(())
+}
+
+// How many of which bytes, the byte that is another one and its place, and the fault.
+type Faulty = (&'static [u8], usize, (usize, u8), &'static str);
+
+const FAULTS: &[Faulty] = &[
+    (&PACKED, 0, (0, 0x41), "too few bytes"),
+    (&PACKED, 46, (0, 0x41), "too few bytes"),
+    (&PACKED_TWO, 47, (0, 0x41), "too few bytes"),
+    (&PACKED, 55, (0, 0x42), "not a packed state"),
+    (&PACKED, 55, (20, 7), "no such class"),
+    (&PACKED_TWO, 56, (21, 2), "no such version of the class"),
+    (&PACKED, 56, (0, 0x41), "wrong length of payload"),
+    (&PACKED, 47, (0, 0x41), "wrong length of payload"),
+];
+
+// Whether the bytes are no packed state, for that fault.
+fn is_fault(alloc: Global, bytes: &[u8], want: &str) -> Result<bool, Fail> {
+    match unpack(alloc, bytes) {
+        Ok(_) => Ok(false),
+        Err(fault) => Ok(format!(in alloc; "{fault}")?.as_str() == want),
+    }
+}
+
+fn is_faulty(alloc: Global, row: &Faulty) -> Result<bool, Fail> {
+    let bytes = altered(alloc, row.0, row.1, row.2)?;
+    is_fault(alloc, bytes.as_slice(), row.3)
 }
 
 #[test]
 fn names_the_first_fault(rt: HostRuntime) -> Result<(), Fail> {
-    let mut other_magic = PACKED;
-    other_magic[0] = 0x42;
-    let mut other_class = PACKED;
-    other_class[20] = 7;
-    let mut other_version = PACKED_TWO;
-    other_version[21] = 2;
-    let mut longer = PACKED.to_vec(rt.alloc())?;
-    longer.push(0)?;
-    let faults = [
-        (&PACKED[..0], "too few bytes"),
-        (&PACKED[..46], "too few bytes"),
-        (&PACKED_TWO[..47], "too few bytes"),
-        (other_magic.as_slice(), "not a packed state"),
-        (other_class.as_slice(), "no such class"),
-        (other_version.as_slice(), "no such version of the class"),
-        (longer.as_slice(), "wrong length of payload"),
-        (&PACKED[..47], "wrong length of payload"),
-    ];
-    for (bytes, want) in faults {
-        let Err(fault) = unpack(rt.alloc(), bytes) else {
-            return Err(Fail::new("unpacked"));
-        };
-        assert_eq!(rt; format!(in rt.alloc(); "{fault}")?.as_str(), want);
+    for row in FAULTS {
+        assert!(rt; is_faulty(rt.alloc(), row)?, "{}", row.3);
     }
     Ok(())
 }
