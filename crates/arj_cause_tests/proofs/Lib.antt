@@ -5,6 +5,7 @@ pub mod Rarer
 mod Answers
 mod Doomed
 mod Followed
+mod Forgotten
 mod Formats
 mod Halts
 mod Longer
@@ -17,6 +18,6 @@ mod WrongEnds
 pub mod WrongEvents
 mod WrongNodes
 mod WrongRuns
-mod WrongQuiesces
+pub mod WrongQuiesces
 mod WrongShows
 mod runs

@@ -25,7 +25,7 @@ use Rattle.arj_law_cause.specs.kinds.Kinds.{is_lock_lowered, is_lost_commit, is_
 use Rattle.arj_law_cause.specs.kinds.Kinds.{is_quiet, is_sent}
 use Rattle.arj_law_cause.specs.kinds.Kinds.{is_up, is_void}
 use Rattle.arj_law_cause.specs.kinds.Rows.{row}
-use Rattle.arj_law_cause.specs.rows.Lines.{answer_fits}
+use Rattle.arj_law_cause.specs.rows.Lines.{answer_fits, is_exact}
 use Rattle.arj_law_cause.specs.waits.replies.Ends.{RepliesStep}
 use Rattle.arj_cause_tests.proofs.Words.{Run, after, b, end_from, instead, l, nodes, object_line, of_other_event, run, u, without}
 use Rattle.arj_cause_tests.proofs.Worked.{conflict, exclusion, inclusion, lost_lock, naming_stopped, nested_abort, no_store_left}
@@ -66,6 +66,21 @@ ok = refl
 
 conflicts : failing answer_fits (instead 10 (body.Conflict (l 66) (u 1 1 1) Exclude 1) conflict) ≡ 10 ∷ []
 conflicts = refl
+
+-- `conflicts`: done while another's lock stands against the call, and a conflict behind its end
+exact : failing is_exact conflict ≡ []
+exact = refl
+
+done_against : failing is_exact (instead 11 (body.Ok (l 66) 1 (op.Add 3) (codes "done"))
+    (after 9 (body.Granted 1 (u 1 1 2) (u 0 0 1) Write ∷ []) conflict)) ≡ 11 ∷ []
+done_against = refl
+
+conflict_late : failing is_exact (instead 18 (body.Conflict (l 66) (u 1 1 1) Write 1) conflict) ≡ 18 ∷ []
+conflict_late = refl
+
+-- included while another top reads the entry
+included_against : failing is_exact (after 38 (body.Granted 1 (u 1 1 1) (u 0 1 1) Read ∷ []) inclusion) ≡ 45 ∷ 72 ∷ []
+included_against = refl
 
 lost : failing answer_fits (without 14 rebinding) ≡ 14 ∷ []
 lost = refl

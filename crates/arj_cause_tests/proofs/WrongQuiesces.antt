@@ -32,7 +32,7 @@ abbrev asking : Wrote → Past
 asking asked = end_from nothing_yet (begins ∷ asked ∷ (event.Lose (Number 1), body.Dropped 1 ∷ []) ∷ [])
 
 -- a quiesce that asks nothing again
-abbrev silent : List Body
+abbrev pub silent : List Body
 silent = body.Quiet false ∷ []
 
 never_on : {A : Type 0} → false ≡ true → A
@@ -59,7 +59,7 @@ lost : QuiescesStep two_nodes (asking (event.Call (l 65) 1 (op.Add 1), body.Sent
 lost s = never_on (sym (s (record { quiesces = refl; up = refl; whole = refl })).nothing)
 
 -- where nobody waits all is quiet
-quiet_said : (front : List Body) → silent ≡ front ++ body.Quiet true ∷ [] → ⊥
+pub quiet_said : (front : List Body) → silent ≡ front ++ body.Quiet true ∷ [] → ⊥
 quiet_said [] is = absurd (cc is)
 quiet_said (b ∷ []) is = absurd (cc is)
 quiet_said (b ∷ c ∷ rest) is = absurd (cc is)

@@ -1,6 +1,6 @@
 // Why calls are answered as they are.
 ghost use Rattle.arj_law_cause.specs.operations.Runs.{RunsAnswerOperations};
-ghost use Rattle.arj_law_cause.specs.rows.Lines.{AnswersHaveCauses};
+ghost use Rattle.arj_law_cause.specs.rows.Lines.{AnswersHaveCauses, ConflictsAreExact};
 
 /// In every run in form, wherever it begins and wherever disks stop, each line that answers a call with what its operation
 /// gave, each that answers an include as done, each that says a conflict, and each that says what was lost, has its cause by
@@ -19,6 +19,16 @@ ghost use Rattle.arj_law_cause.specs.rows.Lines.{AnswersHaveCauses};
 /// and the root had one of them from another call of the object. It does nothing when it runs.
 pub fn answers_have_causes()
     ensures runs { AnswersHaveCauses }
+{}
+
+/// In every run in form, wherever it begins and wherever disks stop, a call or an include is answered with a conflict exactly where
+/// a lock stands against it. Where it is answered as done there is a place of its span, at which that was answered, where the
+/// action has its own lock in the table of the node that ran the operation, and no lock of that table stands against the call; or
+/// of an include where its top has the write lock on the entry in naming's table, and none stands against that. And where it is
+/// answered with a conflict there is one where a lock does, which is the first one, or where a store has a state of another top in
+/// doubt. It does nothing when it runs.
+pub fn conflicts_come_exactly()
+    ensures runs { ConflictsAreExact }
 {}
 
 /// In every run in form, wherever it begins and wherever disks stop, each `ok` line has the text of an answer of the operation

@@ -9,7 +9,7 @@
 //! What it gives upward: `every_line_has_its_cause`, `journals_follow_their_events`, `journals_tell_their_causes`;
 //! `tree_refusals_follow`, `object_refusals_follow`, `refusals_follow`, `dooms_have_causes`, `lines_follow`; `waiting_refusals_follow`,
 //! `answers_end_what_waits`, `commits_end_what_waits`, `giveups_lose_calls`; `conflicts_are_met`, `tables_agree_inside_events`,
-//! `answers_have_causes`, `answers_are_of_their_operations`;
+//! `answers_have_causes`, `conflicts_come_exactly`, `answers_are_of_their_operations`;
 //! `frame_lines_have_causes`, `stops_have_causes`, `restarts_have_causes`, `limits_have_causes`, `openings_have_causes`,
 //! `plain_refusals_have_causes`, `denials_have_causes`, `commits_done_have_causes`, `quiesces_have_causes`, `recoveries_have_causes`,
 //! `ends_have_causes`, `shows_have_causes`, `locks_on_objects_are_free`, `locks_on_entries_are_free`, `bindings_have_causes`,
@@ -32,7 +32,7 @@ mod telling;
 mod waiting;
 mod written;
 
-pub use answers::{answers_are_of_their_operations, answers_have_causes};
+pub use answers::{answers_are_of_their_operations, answers_have_causes, conflicts_come_exactly};
 pub use bound::{bindings_have_causes, copies_have_causes, locks_lowered_have_causes};
 pub use causes::{
     commits_are_called, commits_done_have_causes, denials_have_causes, ends_have_causes,

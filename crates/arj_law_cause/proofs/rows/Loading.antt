@@ -3,7 +3,7 @@
 use Rattle.arj_law_parts.proofs.Words
 use Words.{⊤, ⊎_elim, ◌≡◌, ◌≢◌, ◌⊎◌, ◌≤◌, ◌∙◌, ◌+◌, ◌++◌, ◌&&◌, ℕ, zero, suc, Bool, true, false, cond, List, [], ◌∷◌, length, Option, Some}
 use Words.{None}
-use Words.{refl, sym, ap, subst, inl, inr, entry, Asked, Binding, BoundReply, Header, Kind, Label, Line, Path, Uid, name, top_of}
+use Words.{refl, sym, ap, subst, inl, inr, entry, Asked, Binding, BoundReply, Header, Kind, Label, Line, Path, Uid, name, top_of, top_path}
 use Words.{Reply, actor, again_all, begin_action, call_steps, doomed_by, goes_on, heard, heard_call, kept_at, ◌==◌, Run, Start}
 use Words.{activated_by, binding_eq, binding_less, bound_by, finds, live_known, load_from, made_by, made_known, moves, named_again, or_lost}
 use Words.{other_binding, same_binding, start_at, two_bindings, two_incs, with_inc, write_known}
@@ -29,6 +29,7 @@ use Rattle.arj_model.specs.CauseAnswers.{has_lock}
 use Rattle.arj_model.specs.Past.{Asked as AskedOf}
 use Rattle.arj_model.specs.Refusals.{asks_by, incarnation, last_asked}
 use Rattle.arj_law_cause.proofs.rows.Meeting.{is_write}
+use Rattle.arj_law_cause.specs.rows.Says.{meets_none}
 
 -- ---- what goes on
 
@@ -55,14 +56,15 @@ abbrev pub IsGrantOf : Start → List Line → Goal → At → Type 0
 IsGrantOf st before (Run o) at = grant_of at ≡ incarnation st before 1
 IsGrantOf st before (Include n) at = ⊤
 
--- At some place, no earlier than the event that asked last of this label, the table of naming's node had the top's write lock on the entry;
--- and naming was in the incarnation that the call knows.
+-- At some place, no earlier than the event that asked last of this label, the table of naming's node had the top's write lock on the entry,
+-- and no lock that stands against it; and naming was in the incarnation that the call knows.
 pub record IsLocked (st : Start) (lines : List Line) (askings : List Asking) (l : Label) (s : Steps) : Type 0 where
   pub before : List Line
   pub after : List Line
   pub are : lines ≡ before ++ after
   pub late : (e : AskedOf) → last_asked (asks_by (accepted_of askings) (name l)) ≡ Some e → e.at ≤ length before
   pub lock : has_lock 1 (top_of s.path) (entry s.x) mode.Write before ≡ true
+  pub free : meets_none 1 (top_path s.path) (entry s.x) mode.Write before ≡ true
   pub inc : IsGrantOf st before s.goal s.at
 
 -- so it is of each call and include of a coordinator that goes on so
@@ -211,6 +213,7 @@ locked_on st lines askings l s req next same h = record {
   are = h.are;
   late = h.late;
   lock = h.lock;
+  free = h.free;
   inc = by s.goal h.inc;
 }
   where

@@ -4,6 +4,7 @@ use Rattle.arj_law_parts.proofs.Words
 use Words.{⊤, ◌≡◌, ◌≢◌, ◌≤◌, ◌∙◌, ◌==◌, ◌+◌, ◌++◌, ◌||◌, not, ℕ, Bool, true, false, cond, if◌then◌else◌, List, [], ◌∷◌, length, Option}
 use Words.{Some, None, refl, sym, ap, subst, append-nil, append_assoc, bytes_eq, is_some}
 use Words.{Ask, Asked, Body, BoundReply, Binding, Event, Head, Header, Kind, Label, Line, Message, Uid, asks, name, top_of, numbered}
+use Words.{top_path}
 use Words.{Reply, actor, answers, ask_at, frame_kind, again_all, begin_action, heard, waits_for_call, tick_outs, is_serial}
 use Words.{At, AtBind, Goal, Include, Run, Steps, is_include}
 use Words.{Calling, Coord, Doing, doing_of, Disk, Do, Effect, Say, Send, stopped, worked, Handled, Parts, Took, Void, handle}
@@ -58,7 +59,7 @@ use Rattle.arj_law_cause.proofs.rows.Loading.{IsGrantOf, grant_in, grant_of}
 use Rattle.arj_law_cause.proofs.rows.Differing.{says_differs}
 use Rattle.arj_law_cause.proofs.rows.Meeting.{is_write}
 use Rattle.arj_law_cause.proofs.rows.Taking.{IsCaller, IsGranted, Works, bind_is, caller, granted, root_own}
-use Rattle.arj_law_cause.specs.rows.Says.{says_of}
+use Rattle.arj_law_cause.specs.rows.Says.{meets_none, says_of}
 
 some_is : {A : Type 0} {a b : A} → Some a ≡ Some b → a ≡ b
 some_is {A} {a} {b} is = let k : ◌≡◌ {A = Option A} (Some a) (Some b) = is in cc
@@ -87,6 +88,7 @@ more_locked st ls ms A l s h = record {
   are = (λ i. h.are i ++ ms) ∙ append_assoc h.before h.after ms;
   late = h.late;
   lock = h.lock;
+  free = h.free;
   inc = h.inc;
 }
 
@@ -209,6 +211,7 @@ asked_locked st ls A B l s same h = record {
   are = h.are;
   late = λ e last. h.late e (ap last_asked (sym same) ∙ last);
   lock = h.lock;
+  free = h.free;
   inc = h.inc;
 }
 
@@ -279,9 +282,14 @@ module _ (A : List AskedOf) (hd : Header) (k : ℕ) (d : Disk) (t : Parts) (M : 
             late e last = subst (λ (z : AskedOf). z.at ≤ length T.before)
                 (some_is (sym (let c = caller A hd k d t M W a.act w s found is in let z = c.asked in z.last) ∙ last)) T.late
 
-            locked_by : has_lock 1 (top_of s.path) (entry s.x) mode.Write T.before ≡ true → IsGrantOf M.seen.start T.before s.goal next →
+            Free : Type 0
+            Free = (has_lock 1 (top_of s.path) (entry s.x) mode.Write T.before ≡ true)
+                × (meets_none 1 (top_path s.path) (entry s.x) mode.Write T.before ≡ true)
+
+            locked_by : Free → IsGrantOf M.seen.start T.before s.goal next →
                 IsLocked M.seen.start M.seen.lines M.past.askings w.label (record s { req = s.req + 1; at = next })
-            locked_by lock inc = record { before = T.before; after = T.after; are = T.are; late = late; lock = lock; inc = inc }
+            locked_by free inc =
+                record { before = T.before; after = T.after; are = T.are; late = late; lock = free.0; free = free.1; inc = inc }
 
             known : (g : Goal) → grant_of next ≡ incarnation M.seen.start T.before 1 → IsGrantOf M.seen.start T.before g next
             known (Run o) is = is
@@ -292,9 +300,10 @@ module _ (A : List AskedOf) (hd : Header) (k : ℕ) (d : Disk) (t : Parts) (M : 
             by (bound.Conflict u h) same on its = absurd (cc on)
             by (bound.Live b server i g stores) same on its = absurd (cc on)
             by (bound.Make b server g stores) same on its =
-                let says : (is_include s.goal ≡ false) × (has_lock 1 (top_of s.path) (entry s.x) mode.Write T.before ≡ true) =
+                let says : (is_include s.goal ≡ false) × (has_lock 1 (top_of s.path) (entry s.x) mode.Write T.before ≡ true)
+                × (meets_none 1 (top_path s.path) (entry s.x) mode.Write T.before ≡ true) =
                 subst (λ z. says_of A hd from (head_of s) (ask.Bind s.x (is_include s.goal) avoid) z T.before) same so in
-                locked_by says.1 (known s.goal (its
+                locked_by (says.1, says.2) (known s.goal (its
                 ∙ subst (λ z. says_differs M.seen.start from (head_of s) (ask.Bind s.x (is_include s.goal) avoid) z T.before) same differs))
             by (bound.Write g stores) same on its =
                 locked_by (subst (λ z. says_of A hd from (head_of s) (ask.Bind s.x (is_include s.goal) avoid) z T.before) same so)

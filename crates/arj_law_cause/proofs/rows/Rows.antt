@@ -1,13 +1,13 @@
 -- A conflict, and an answer of an operation, has its cause by the journal where the line is written.
 use Rattle.arj_law_parts.proofs.Words
 use Words.{◌≡◌, ◌∙◌, ◌++◌, ◌&&◌, ◌||◌, not, ℕ, Bool, true, false, List, [], ◌∷◌, length, take, Option, Some, None, refl, sym}
-use Words.{BoundReply, ObjectState, binding_eq, ◌⊎◌, ◌+◌, bytes_eq-Decides, ap, subst, arith, eq-eqb, and_parts}
+use Words.{BoundReply, ObjectState, binding_eq, ◌⊎◌, ◌+◌, ap, subst, arith, eq-eqb, and_parts}
 use Words.{list_any, Binding, In, End, Ask, Asked, Event, Header, Line}
-use Words.{Mode, Op, Row, Uid, Value, class_code_of, entry, object}
+use Words.{Mode, Op, Uid, entry, object}
 use Rattle.arj_protocol.specs.Words.{FrameKind}
-use Words.{Answer, Known, Label, leb-true, node_at, ◌≤◌, ◌<◌, is_nested, ask_at, op_mode, first_conflict, in_find, is_against, is_on}
+use Words.{Answer, Known, Label, leb-true, node_at, ◌≤◌, ◌<◌, is_nested, ask_at, op_mode, is_on}
 use Rattle.std.specs.Prelude.{drop}
-use Words.{last_uid, name, uid_eq, uid_is, uid_same, uids_of, top_of, top_path, tops_of, actor, Reply, response, frame_kind}
+use Words.{last_uid, name, uid_eq, uid_same, uids_of, top_of, top_path, tops_of, actor, Reply, response, frame_kind}
 use Words.{⊎_elim, ◌==◌, inl, inr, is_include, At, AtActivate, AtBind, AtInvoke, AtLoad, AtNote, Goal, Include, Run, Steps, Doing, nat_le}
 use Words.{What, binding_eq, binding_less, binding_number, cond, differs, nat_lt, nat_tests, next_ask}
 use Words.{two_incs, Path, suc, zero, tops_of}
@@ -21,8 +21,6 @@ use Words.loaded
 use Words.recorded
 use Words.what
 use Words.mode
-use Words.value
-use Rattle.arj_protocol.specs.Words.op
 use Rattle.arj_law_serial.proofs.Terms
 use Terms.{Act, act_in, acts, any_in, has_act, uids, path}
 use Rattle.arj_law_lock_view.specs.asking.Asked.{accepted_of, asks_goal}
@@ -31,7 +29,7 @@ use Rattle.arj_law_lock_view.specs.moments.Made.{BeginsWith}
 use Rattle.arj_law_parts.specs.parts.Messages.{IsTopAction}
 use Rattle.arj_law_runs.specs.addresses.Binds.{StandsOn}
 use Rattle.arj_law_runs.specs.calls.Coords.{bare, head_of}
-use Rattle.arj_model.specs.CauseAnswers.{conflict_caused, has_lock, includes_caused, is_held, meets, meets_at_naming, meets_at_server}
+use Rattle.arj_model.specs.CauseAnswers.{conflict_caused, has_lock, includes_caused, meets, meets_at_naming, meets_at_server}
 use Rattle.arj_model.specs.CauseAnswers.{meets_at_store}
 use Rattle.arj_model.specs.CauseAnswers.{mode_of_call, modes_on_entry, ok_caused, was_told}
 use Rattle.arj_journal.specs.ScriptForm.{HeaderInForm}
@@ -44,10 +42,9 @@ use Rattle.arj_model.specs.CauseCopies.{had_both, has_entered_in, is_older, was_
 use Rattle.arj_law_runs.proofs.calls.WholeRuns.{few_before}
 use Rattle.arj_law_runs.specs.calls.Bindings.{HasFewBindings, bindings_made}
 use Rattle.arj_model.specs.CauseSpans.{Here, act_by, answered, asks_so, from_place, holds_in, is_call, is_call_of, is_include_of}
-use Rattle.arj_model.specs.CauseSpans.{nodes_of, same_frame, same_mode, same_op, same_pairs, same_value, top_uids, was_sent}
+use Rattle.arj_model.specs.CauseSpans.{nodes_of, same_frame, same_mode, top_uids, was_sent}
 use Rattle.arj_model.specs.Past.{Asked as AskedOf, label_of}
 use Rattle.arj_model.specs.Refusals.{answers_to, asks_by, has_ended, holds_of, incarnation, last_asked, object_used}
-use Rattle.arj_model.specs.Table.{table}
 use Rattle.arj_law_cause.proofs.bindings.Active.{older_is}
 use Rattle.arj_law_cause.proofs.bindings.Asking.{BoundSo, IsAtSo, IsKeptSo, IsKnownSo, ReplySo}
 use Rattle.arj_law_cause.proofs.bindings.Copies.{active_by}
@@ -59,17 +56,18 @@ use Rattle.arj_law_cause.proofs.rows.Differences.{activate_is, bound_then, recor
 use Rattle.arj_law_cause.proofs.rows.Differing.{Differs, says_differs}
 use Rattle.arj_law_cause.proofs.rows.Ending.{IsOther, IsOtherInc, IsConflict, ByNaming, ByServer, ByStore}
 use Rattle.arj_law_cause.proofs.rows.Ending.{IsChange, OnActivate, OnInvoke, OnLive, OnMake, OnNote}
+use Rattle.arj_law_cause.proofs.rows.Meeting.{off_any, off_met}
 use Rattle.arj_law_cause.proofs.rows.Holders.{any_later, off_path, one_found, one_passes, upper_from}
 use Rattle.arj_law_cause.proofs.rows.Entered.{GrantsBegan, entered_then}
 use Rattle.arj_law_cause.proofs.rows.Loading.{IsGrantOf, IsLocked, is_on_way}
 use Rattle.arj_law_cause.proofs.rows.Paths.{one_top, top_is}
-use Rattle.arj_law_cause.proofs.rows.Spans.{answered_at, in_range, or_first, or_last, rows_so, sent_to, shown_from}
+use Rattle.arj_law_cause.proofs.rows.Spans.{answered_at, in_range, op_same, or_first, or_last, rows_so, sent_to, shown_from}
 use Rattle.arj_law_cause.proofs.rows.Pends.{IsCalledAt, called_act}
 use Rattle.arj_law_cause.proofs.confirm.Joined.{early_before}
 use Rattle.arj_law_cause.specs.rows.Early.{IsEarly}
-use Rattle.arj_law_cause.specs.rows.Says.{entry_modes, has_changed, has_upper, says_of}
+use Rattle.arj_law_cause.specs.rows.Says.{entry_modes, has_changed, has_upper, meets_none, says_of}
 use Rattle.arj_law_cause.proofs.rows.Taking.{AskedPaths, IsCaller, IsPathAt, IsTaken, IsTold, bind_is}
-use Rattle.arj_law_cause.specs.rows.Lines.{answer_fits}
+use Rattle.arj_law_cause.specs.rows.Lines.{answer_fits, include_is_free, ok_is_free}
 
 -- ---- requests
 
@@ -112,58 +110,6 @@ label_is e l x (Include n) is = ap label_of is
 modes_are : (e : Event) (l : Label) (x : ℕ) (g : Goal) → e ≡ asks_goal l x g → modes_on_entry e ≡ entry_modes (is_include g)
 modes_are e l x (Run o) is = ap modes_on_entry is
 modes_are e l x (Include n) is = ap modes_on_entry is
-
-pairs_same : (ps : List (ℕ × ℕ)) → same_pairs ps ps ≡ true
-pairs_same [] = refl
-pairs_same (p ∷ ps) = λ i. eq-eqb p.0 p.0 refl i && (eq-eqb p.1 p.1 refl i && pairs_same ps i)
-
-value_same : (v : Value) → same_value v v ≡ true
-value_same (value.Counter n) = eq-eqb n n refl
-value_same (value.Register bytes) = (bytes_eq-Decides bytes bytes).1 refl
-value_same (value.Account n) = eq-eqb n n refl
-value_same (value.Queue ns) = (bytes_eq-Decides ns ns).1 refl
-value_same (value.Table ps) = pairs_same ps
-value_same (value.Gone c) = eq-eqb (class_code_of c) (class_code_of c) refl
-
-op_same : (o : Op) → same_op o o ≡ true
-op_same op.Get = refl
-op_same (op.Add n) = eq-eqb n n refl
-op_same (op.Set n) = eq-eqb n n refl
-op_same (op.Put bytes) = (bytes_eq-Decides bytes bytes).1 refl
-op_same (op.Deposit n) = eq-eqb n n refl
-op_same (op.Withdraw n) = eq-eqb n n refl
-op_same op.Len = refl
-op_same (op.Push n) = eq-eqb n n refl
-op_same op.Pop = refl
-op_same (op.GetKey n) = eq-eqb n n refl
-op_same (op.PutPair j n) = λ i. eq-eqb j j refl i && eq-eqb n n refl i
-op_same (op.Remove n) = eq-eqb n n refl
-op_same (op.Create v) = value_same v
-op_same op.Destroy = refl
-
--- who is met isn't on the path that asks
-off_met : (n : ℕ) (us : List Uid) (o : Uid) (asked : Mode) (u : Uid) (held : Mode) (lines : List Line) →
-    meets n us o asked u held lines ≡ true →
-    is_on us u ≡ false
-off_met n us o asked u held lines is = by (first_conflict us o asked (table n lines)) refl is
-  where
-    turn : (b : Bool) → not b ≡ true → b ≡ false
-    turn true no_way = absurd (cc no_way)
-    turn false is = refl
-
-    by : (f : Option Row) → first_conflict us o asked (table n lines) ≡ f → holds_in (is_held u held) f ≡ true → is_on us u ≡ false
-    by None found none = absurd (cc none)
-    by (Some r) found held_so =
-        let p = and_parts (uid_eq (last_uid r.holder) u) (same_mode r.mode held) held_so in
-        let i = in_find (is_against us o asked) r (table n lines) found in
-        let a = and_parts (uid_eq r.object o) _ i.1 in
-        let b = and_parts (not (is_on us (last_uid r.holder))) _ a.1 in
-        ap (is_on us) (sym (uid_is (last_uid r.holder) u p.0)) ∙ turn (is_on us (last_uid r.holder)) b.0
-
-off_any : (ws : List Mode) (us : List Uid) (o : Uid) (u : Uid) (held : Mode) (lines : List Line) →
-    list_any (λ asked. meets 1 us o asked u held lines) ws ≡ true → is_on us u ≡ false
-off_any ws us o u held lines is =
-    let q = one_passes (λ asked. meets 1 us o asked u held lines) ws is in off_met 1 us o q.0 u held lines q.2
 
 -- the top stands on its path
 top_on : (p : Path) → is_on (uids_of p) (top_of p) ≡ true
@@ -234,30 +180,61 @@ module _ (A : List AskedOf) (hd : Header) (k : ℕ) (M : Moment) (h : Here) (hea
   known v before after are is = one_found (λ (a : Act). uid_eq a.uid v) (acts h.lines)
       (ap (λ ls. has_act (acts ls) v) (lines ∙ are) ∙ any_later (λ (a : Act). uid_eq a.uid v) before after is)
 
-  -- an include that is done in its top's lock
-  pub included_so : (n : ℕ) → s.goal ≡ Include n →
-      IsLocked M.seen.start M.seen.lines M.past.askings w.label s → includes_caused h (name w.label) s.x n ≡ true
-  included_so n goal locked = row_so (λ b z. is_include_of s.x n z.event
-      && holds_of (λ top. from_place h z.at (has_lock 1 top.uid (entry s.x) mode.Write)) (top_in z.path))
-      (λ j. (ap (is_include_of s.x n) (its_event ∙ ap (asks_goal (let g = c.asked.goal in g.0) s.x) goal)
-      ∙ (λ i. eq-eqb s.x s.x refl i && eq-eqb n n refl i)) j && (ap (holds_of (λ top. from_place h (let z = q in z.at)
-      (has_lock 1 top.uid (entry s.x) mode.Write))) its_top.1 ∙ shown) j)
-    where
-      its_top : (top : Act) × (top_in (let z = q in z.path) ≡ Some top) × (top.uid ≡ top_of s.path)
-      its_top =
-          let f = paths c.asked.asking c.asked.there in
-          let l : label_of (let z = q in z.event) ≡ name w.label =
-          label_is (let z = q in z.event) (let g = c.asked.goal in g.0) s.x s.goal its_event ∙ (let g = c.asked.goal in g.1) in
-          let at_first : (let z = q in z.path) ≡ path (acts f.first) (name w.label) = f.path ∙ ap (path (acts f.first)) l in
-          let o = one_top c.begun c.all M.seen.lines f.first f.more f.are c.distinct c.alike (name w.label) c.act c.named c.caller c.there
-          (c.uid ∙ sym c.actor ∙ ap actor (sym c.path)) c.formed c.unserial
-          (ap uids (sym at_first) ∙ its_path ∙ ap uids_of (sym c.path)) in
-          (o.0, ap top_in at_first ∙ o.1, o.2 ∙ ap top_of c.path)
+  -- its top's path is what the journal has
+  tops : top_uids (let z = q in z.path) ≡ top_path s.path
+  tops =
+      let f = paths c.asked.asking c.asked.there in
+      let l : label_of (let z = q in z.event) ≡ name w.label =
+      label_is (let z = q in z.event) (let g = c.asked.goal in g.0) s.x s.goal its_event ∙ (let g = c.asked.goal in g.1) in
+      let at_first : (let z = q in z.path) ≡ path (acts f.first) (name w.label) = f.path ∙ ap (path (acts f.first)) l in
+      ap top_uids at_first
+      ∙ top_is c.begun c.all M.seen.lines f.first f.more f.are c.distinct c.alike (name w.label) c.act c.named c.caller c.there
+      (c.uid ∙ sym c.actor ∙ ap actor (sym c.path)) (ap uids (sym at_first) ∙ its_path ∙ ap uids_of (sym c.path))
+      ∙ ap top_path c.path
 
-      shown : from_place h (let z = q in z.at) (has_lock 1 (let a = its_top.0 in a.uid) (entry s.x) mode.Write) ≡ true
-      shown = shown_from h (let z = q in z.at) (has_lock 1 (let a = its_top.0 in a.uid) (entry s.x) mode.Write) locked.before locked.after
-          (lines ∙ locked.are) (locked.late (let z = q in z) (let a = c.asked in a.last))
-          (ap (λ v. has_lock 1 v (entry s.x) mode.Write locked.before) its_top.2 ∙ locked.lock)
+  its_top : (top : Act) × (top_in (let z = q in z.path) ≡ Some top) × (top.uid ≡ top_of s.path)
+  its_top =
+      let f = paths c.asked.asking c.asked.there in
+      let l : label_of (let z = q in z.event) ≡ name w.label =
+      label_is (let z = q in z.event) (let g = c.asked.goal in g.0) s.x s.goal its_event ∙ (let g = c.asked.goal in g.1) in
+      let at_first : (let z = q in z.path) ≡ path (acts f.first) (name w.label) = f.path ∙ ap (path (acts f.first)) l in
+      let o = one_top c.begun c.all M.seen.lines f.first f.more f.are c.distinct c.alike (name w.label) c.act c.named c.caller c.there
+      (c.uid ∙ sym c.actor ∙ ap actor (sym c.path)) c.formed c.unserial
+      (ap uids (sym at_first) ∙ its_path ∙ ap uids_of (sym c.path)) in
+      (o.0, ap top_in at_first ∙ o.1, o.2 ∙ ap top_of c.path)
+
+  -- an include that is done in its top's lock, against which no other stands
+  pub included_so : (n : ℕ) → s.goal ≡ Include n → IsLocked M.seen.start M.seen.lines M.past.askings w.label s →
+      (includes_caused h (name w.label) s.x n && include_is_free h (name w.label) s.x n) ≡ true
+  included_so n goal locked = λ i. caused i && free i
+    where
+      event_is : is_include_of s.x n (let z = q in z.event) ≡ true
+      event_is = ap (is_include_of s.x n) (its_event ∙ ap (asks_goal (let g = c.asked.goal in g.0) s.x) goal)
+          ∙ (λ i. eq-eqb s.x s.x refl i && eq-eqb n n refl i)
+
+      -- where it was locked so much shows
+      shown : (shows : List Line → Bool) → shows locked.before ≡ true → from_place h (let z = q in z.at) shows ≡ true
+      shown shows is = shown_from h (let z = q in z.at) shows locked.before locked.after (lines ∙ locked.are)
+          (locked.late (let z = q in z) (let a = c.asked in a.last)) is
+
+      lock : has_lock 1 (let a = its_top.0 in a.uid) (entry s.x) mode.Write locked.before ≡ true
+      lock = ap (λ v. has_lock 1 v (entry s.x) mode.Write locked.before) its_top.2 ∙ locked.lock
+
+      caused : includes_caused h (name w.label) s.x n ≡ true
+      caused = row_so (λ b z. is_include_of s.x n z.event
+          && holds_of (λ top. from_place h z.at (has_lock 1 top.uid (entry s.x) mode.Write)) (top_in z.path))
+          (λ j. event_is j && (ap (holds_of (λ top. from_place h (let z = q in z.at) (has_lock 1 top.uid (entry s.x) mode.Write))) its_top.1
+          ∙ shown (has_lock 1 (let a = its_top.0 in a.uid) (entry s.x) mode.Write) lock) j)
+
+      free : include_is_free h (name w.label) s.x n ≡ true
+      free = row_so (λ b z. is_include_of s.x n z.event
+          && holds_of (λ top. from_place h z.at (λ ls. has_lock 1 top.uid (entry s.x) mode.Write ls
+          && meets_none 1 (top_uids z.path) (entry s.x) mode.Write ls)) (top_in z.path))
+          (λ j. event_is j && (ap (holds_of (λ top. from_place h (let z = q in z.at) (λ ls. has_lock 1 top.uid (entry s.x) mode.Write ls
+          && meets_none 1 (top_uids (let z = q in z.path)) (entry s.x) mode.Write ls))) its_top.1
+          ∙ shown (λ ls. has_lock 1 (let a = its_top.0 in a.uid) (entry s.x) mode.Write ls
+          && meets_none 1 (top_uids (let z = q in z.path)) (entry s.x) mode.Write ls)
+          (λ i. lock i && (ap (λ us. meets_none 1 us (entry s.x) mode.Write locked.before) tops ∙ locked.free) i)) j)
 
   -- ---- an answer that it takes
 
@@ -323,29 +300,45 @@ module _ (A : List AskedOf) (hd : Header) (k : ℕ) (M : Moment) (h : Here) (hea
             (meets from (uids (let z = q in z.path)) (object s.x) (op_mode run.0) v m)
             (ap (λ us. meets from us (object s.x) (op_mode run.0) v m T.before) its_path ∙ so.0)
 
-    -- an operation that was run
+    -- an operation that was run, in its lock, against which no other stood
     pub ok_so : (x : Known) (i : ℕ) (o : Op) (b : Answer) → s.at ≡ AtInvoke x i → s.goal ≡ Run o → r ≡ Reply.Invoked (invoked.Answered b) →
-        ok_caused h (name w.label) s.x o ≡ true
-    ok_so x i o b at goal is =
-        row_so (λ y z. is_call_of s.x o z.event && list_any (λ n. answered h z.at y.uid.node n (frame.Invoked ∷ [])
-        (has_lock n y.uid (object s.x) (op_mode o))) (nodes_of h.header))
-        (λ j. (ap (is_call_of s.x o) (its_event ∙ ap (asks_goal (let g = c.asked.goal in g.0) s.x) goal)
-        ∙ (λ l. eq-eqb s.x s.x refl l && op_same o l)) j && locked j)
+        (ok_caused h (name w.label) s.x o && ok_is_free h (name w.label) s.x o) ≡ true
+    ok_so x i o b at goal is = λ l. caused l && free l
       where
         request : (ends : List (Uid × End)) × (T.ask ≡ ask.Invoke s.x x.binding i ends o)
         request = invoke_is T.ask s.x x.binding i o (T.same ∙ (λ j. ask_at s.x (goal j) [] (at j)))
 
-        so : has_lock from (actor s.path) (object s.x) (op_mode o) T.before ≡ true
+        so : (has_lock from (actor s.path) (object s.x) (op_mode o) T.before ≡ true)
+            × (meets_none from (uids_of s.path) (object s.x) (op_mode o) T.before ≡ true)
         so = subst (λ z. says_of A hd from (head_of s) z (Reply.Invoked (invoked.Answered b)) T.before) request.1
             (subst (λ z. says_of A hd from (head_of s) T.ask z T.before) is T.so)
 
-        locked : list_any (λ n. answered h (let z = q in z.at) (let y = c.act.uid in y.node) n (frame.Invoked ∷ [])
-            (has_lock n c.act.uid (object s.x) (op_mode o))) (nodes_of h.header) ≡ true
-        locked = any_in (λ n. answered h (let z = q in z.at) (let y = c.act.uid in y.node) n (frame.Invoked ∷ [])
-            (has_lock n c.act.uid (object s.x) (op_mode o))) from (nodes_of h.header)
-            among
-            (found_at frame.Invoked (ap (λ z. frame_kind (response a z)) is) refl (has_lock from c.act.uid (object s.x) (op_mode o))
-            (ap (λ v. has_lock from v (object s.x) (op_mode o) T.before) (c.uid ∙ sym c.actor) ∙ so))
+        event_is : is_call_of s.x o (let z = q in z.event) ≡ true
+        event_is = ap (is_call_of s.x o) (its_event ∙ ap (asks_goal (let g = c.asked.goal in g.0) s.x) goal)
+            ∙ (λ l. eq-eqb s.x s.x refl l && op_same o l)
+
+        -- the node that answered shows it
+        shown : (shows : ℕ → List Line → Bool) → shows from T.before ≡ true →
+            list_any (λ n. answered h (let z = q in z.at) (let y = c.act.uid in y.node) n (frame.Invoked ∷ []) (shows n))
+            (nodes_of h.header) ≡ true
+        shown shows it = any_in (λ n. answered h (let z = q in z.at) (let y = c.act.uid in y.node) n (frame.Invoked ∷ []) (shows n)) from
+            (nodes_of h.header) among (found_at frame.Invoked (ap (λ z. frame_kind (response a z)) is) refl (shows from) it)
+
+        lock : has_lock from c.act.uid (object s.x) (op_mode o) T.before ≡ true
+        lock = ap (λ v. has_lock from v (object s.x) (op_mode o) T.before) (c.uid ∙ sym c.actor) ∙ so.0
+
+        caused : ok_caused h (name w.label) s.x o ≡ true
+        caused = row_so (λ y z. is_call_of s.x o z.event && list_any (λ n. answered h z.at y.uid.node n (frame.Invoked ∷ [])
+            (has_lock n y.uid (object s.x) (op_mode o))) (nodes_of h.header))
+            (λ j. event_is j && shown (λ n. has_lock n c.act.uid (object s.x) (op_mode o)) lock j)
+
+        free : ok_is_free h (name w.label) s.x o ≡ true
+        free = row_so (λ y z. is_call_of s.x o z.event && list_any (λ n. answered h z.at y.uid.node n (frame.Invoked ∷ [])
+            (λ ls. has_lock n y.uid (object s.x) (op_mode o) ls && meets_none n (uids z.path) (object s.x) (op_mode o) ls))
+            (nodes_of h.header))
+            (λ j. event_is j && shown (λ n ls. has_lock n c.act.uid (object s.x) (op_mode o) ls
+            && meets_none n (uids (let z = q in z.path)) (object s.x) (op_mode o) ls)
+            (λ i. lock i && (ap (λ us. meets_none from us (object s.x) (op_mode o) T.before) its_path ∙ so.1) i) j)
 
     -- the node of the action
     abbrev its_home : ℕ
@@ -675,11 +668,11 @@ module _ (A : List AskedOf) (hd : Header) (k : ℕ) (M : Moment) (h : Here) (hea
       -- what changed, in a call
       pub changed_so : (n : ℕ) (v : What) → IsChange kept s.at r n v → Fits n v
       changed_so n v (OnLive avoid b server i g stores at is (inl other)) =
-          let run = bound_to avoid (bound.Live b server i g stores) at is (λ so. so) in
+          let run = bound_to avoid (bound.Live b server i g stores) at is (λ so. so.0) in
           let so = bound_reply avoid (bound.Live b server i g stores) at is in
           other_so avoid (bound.Live b server i g stores) b server n v run.0 run.1 at is so.1 other
       changed_so n v (OnLive avoid b server i g stores at is (inr (old, first, keeps, same, its, has, off, two))) =
-          let run = bound_to avoid (bound.Live b server i g stores) at is (λ so. so) in
+          let run = bound_to avoid (bound.Live b server i g stores) at is (λ so. so.0) in
           let no_way : true ≡ false = sym (eq-eqb first i (live_kept run.0 run.1 avoid at b server i g stores is old first keeps has same))
           ∙ off in absurd (cc no_way)
       changed_so n v (OnMake avoid b server g stores at is other) =
@@ -716,18 +709,6 @@ module _ (A : List AskedOf) (hd : Header) (k : ℕ) (M : Moment) (h : Here) (hea
         off = ap (λ p. is_on (uids_of p) v) (sym c.path)
             ∙ off_path c.begun c.all v upper c.caller c.there (ap (λ p. is_on (take (tops_of p) (uids_of p)) v) c.path
             ∙ off_any (entry_modes (is_include s.goal)) (top_path s.path) (entry s.x) v m T.before so.1)
-
-        -- its top's path is what the journal has
-        tops : top_uids (let z = q in z.path) ≡ top_path s.path
-        tops =
-            let f = paths c.asked.asking c.asked.there in
-            let l : label_of (let z = q in z.event) ≡ name w.label =
-            label_is (let z = q in z.event) (let g = c.asked.goal in g.0) s.x s.goal its_event ∙ (let g = c.asked.goal in g.1) in
-            let at_first : (let z = q in z.path) ≡ path (acts f.first) (name w.label) = f.path ∙ ap (path (acts f.first)) l in
-            ap top_uids at_first
-            ∙ top_is c.begun c.all M.seen.lines f.first f.more f.are c.distinct c.alike (name w.label) c.act c.named c.caller c.there
-            (c.uid ∙ sym c.actor ∙ ap actor (sym c.path)) (ap uids (sym at_first) ∙ its_path ∙ ap uids_of (sym c.path))
-            ∙ ap top_path c.path
 
         met : meets_at_naming h c.act q s.x v m from ≡ true
         met =

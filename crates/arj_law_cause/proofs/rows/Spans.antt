@@ -4,11 +4,14 @@ use Words.{⊎_elim, ◌≡◌, ◌⊎◌, ◌≤◌, ◌<◌, ◌∙◌, ◌+�
 use Rattle.std.specs.Prelude.{drop}
 use Rattle.arj_protocol.specs.Words.{FrameKind}
 use Words.{length, take, Some, None, refl, sym, ap, inl, inr, arith, nat_lt, nat_tests, eqb-true, eq-eqb, list_any}
-use Words.{length-append, In, if◌then◌else◌, Line}
+use Words.{length-append, In, if◌then◌else◌, Line, Op, Value, bytes_eq-Decides, class_code_of}
+use Words.value
+use Rattle.arj_protocol.specs.Words.op
 use Rattle.arj_law_serial.proofs.Terms
 use Terms.{Act, act_in, acts, any_in}
 use Rattle.arj_law_lock_view.specs.moments.Made.{BeginsWith}
-use Rattle.arj_model.specs.CauseSpans.{Here, answered, asking, asks_so, begins_with, from_place, holds_in, is_frame, same_frame, was_sent}
+use Rattle.arj_model.specs.CauseSpans.{Here, answered, asking, asks_so, begins_with, from_place, holds_in, is_frame, same_frame, same_op}
+use Rattle.arj_model.specs.CauseSpans.{same_pairs, same_value, was_sent}
 use Rattle.arj_model.specs.Past.{Asked}
 use Rattle.arj_model.specs.Refusals.{answers_to, asks_by, has_ended, holds_of, last_asked, unanswered}
 use Rattle.std.proofs.Math.Seq.{drop-append_seam, take-append_seam}
@@ -22,6 +25,37 @@ or_first a b is = λ i. is i || b
 pub or_last : (a b : Bool) → b ≡ true → (a || b) ≡ true
 or_last true b is = refl
 or_last false b is = is
+
+-- ---- operations
+
+pairs_same : (ps : List (ℕ × ℕ)) → same_pairs ps ps ≡ true
+pairs_same [] = refl
+pairs_same (p ∷ ps) = λ i. eq-eqb p.0 p.0 refl i && (eq-eqb p.1 p.1 refl i && pairs_same ps i)
+
+value_same : (v : Value) → same_value v v ≡ true
+value_same (value.Counter n) = eq-eqb n n refl
+value_same (value.Register bytes) = (bytes_eq-Decides bytes bytes).1 refl
+value_same (value.Account n) = eq-eqb n n refl
+value_same (value.Queue ns) = (bytes_eq-Decides ns ns).1 refl
+value_same (value.Table ps) = pairs_same ps
+value_same (value.Gone c) = eq-eqb (class_code_of c) (class_code_of c) refl
+
+-- an operation is the same as itself
+pub op_same : (o : Op) → same_op o o ≡ true
+op_same op.Get = refl
+op_same (op.Add n) = eq-eqb n n refl
+op_same (op.Set n) = eq-eqb n n refl
+op_same (op.Put bytes) = (bytes_eq-Decides bytes bytes).1 refl
+op_same (op.Deposit n) = eq-eqb n n refl
+op_same (op.Withdraw n) = eq-eqb n n refl
+op_same op.Len = refl
+op_same (op.Push n) = eq-eqb n n refl
+op_same op.Pop = refl
+op_same (op.GetKey n) = eq-eqb n n refl
+op_same (op.PutPair j n) = λ i. eq-eqb j j refl i && eq-eqb n n refl i
+op_same (op.Remove n) = eq-eqb n n refl
+op_same (op.Create v) = value_same v
+op_same op.Destroy = refl
 
 -- ---- places
 

@@ -5,7 +5,7 @@ use Words.{◌≡◌, ◌∙◌, ◌==◌, ◌++◌, ◌&&◌, ℕ, Bool, true, 
 use Words.{subst, ⊤, list_all, and_parts}
 use Words.{append-nil, append_assoc, map-append, option_map, is_some, eqb-true, entry, object, op_mode, uids_of, top_of, top_path, Ask}
 use Words.{Asked}
-use Words.{Body, Head, Header, Line, Message, Mode, Uid, Op, Binding, End}
+use Words.{first_conflict, Body, Head, Header, Line, Message, Mode, Uid, Op, Binding, End}
 use Words.{Reply, answers, asked_by, response, Disk, Do, Effect, Say, Send, worked, Naming, Handled, Parts, Took, Void, handle, serve}
 use Words.{served, sends_answer, if_naming, Contains, In, Row, actor, at_number, in_find, in_to, is_against, last_uid, Copy, rows_in_copy}
 use Words.{rows_in_named, Named, Node}
@@ -45,12 +45,13 @@ use Rattle.arj_model.specs.Table.{table}
 use Rattle.arj_protocol.specs.Laws.{naming_rows}
 use Rattle.arj_law_cause.proofs.rows.Inside.{handle_starts}
 use Rattle.arj_law_cause.proofs.rows.Holders.{begun_act, entry_upper, upper_act}
-use Rattle.arj_law_cause.proofs.rows.Meeting.{Meets, bind_meets, bind_writes, invoke_meets, invoke_runs, is_write, lock_by, meets_by}
+use Rattle.arj_law_cause.proofs.rows.Meeting.{Meets, bind_clears, bind_meets, bind_writes, free_by, invoke_meets}
+use Rattle.arj_law_cause.proofs.rows.Meeting.{invoke_runs, is_write, lock_by, meets_by}
 use Rattle.arj_journal.specs.ScriptForm.{HeaderInForm}
 use Rattle.arj_model.specs.CausePends.{may_store}
 use Rattle.arj_model.specs.CausePends.{pends}
 use Rattle.arj_model.specs.Past.{Asked as AskedOf}
-use Rattle.arj_law_cause.specs.rows.{Early.IsEarly, Says.has_changed, Says.has_upper, Says.says_of, Tables.Inside}
+use Rattle.arj_law_cause.specs.rows.{Early.IsEarly, Says.has_changed, Says.has_upper, Says.meets_none, Says.says_of, Tables.Inside}
 use Rattle.arj_law_parts.proofs.parts.LivesNamed.{all_found}
 use Terms.{IsEntryRow}
 use Terms.{HaveUpper}
@@ -327,8 +328,11 @@ module _ (hd : Header) (before : List Line) (event : ℕ) (early : (j : ℕ) →
         says : (q : InvokedReply) → (server.invoke k h x b i ends o t.server).reply ≡ Some q → After x b i ends o ≡ v →
             says_of A hd k h (ask.Invoke x b i ends o) (Reply.Invoked q) lines
         says (invoked.Answered a) at same =
-            lock_by k (actor h.path) (object x) (op_mode o) lines (server_rows x (let w = After x b i ends o in w.server))
-            (shown.server x ∙ ap (λ (z : Parts). server_rows x z.server) (sym same)) (invoke_runs k h x ends o a b i t.server new at)
+            let run = invoke_runs k h x ends o a b i t.server new at in
+            let rows = shown.server x ∙ ap (λ (z : Parts). server_rows x z.server) (sym same) in (
+              lock_by k (actor h.path) (object x) (op_mode o) lines (server_rows x (let w = After x b i ends o in w.server)) rows run.0,
+              free_by k (uids_of h.path) (object x) (op_mode o) lines (server_rows x (let w = After x b i ends o in w.server)) rows run.1,
+            )
         says (invoked.Changed w) at same = tt
         says (invoked.Conflict u m) at same =
             let q = invoke_meets k h x ends o u m b i t.server new at in (
@@ -367,14 +371,30 @@ module _ (hd : Header) (before : List Line) (event : ℕ) (early : (j : ℕ) →
                 ∙ ap (λ (y : Parts). named_locks x y.naming) (sym same))
                 (bind_writes h.path x q include avoid d.names o on at)
 
+            -- where no lock stands against it
+            free : (m : Mode) → Bound x include avoid o ≡ v →
+                first_conflict (top_path h.path) (entry x) m (naming_rows x (naming.bind h.path x include avoid d.names o).part) ≡ None →
+                meets_none 1 (top_path h.path) (entry x) m lines ≡ true
+            free m same none =
+                free_by 1 (top_path h.path) (entry x) m lines (naming_rows x (naming.bind h.path x include avoid d.names o).part)
+                (subst (λ n. rows_on (entry x) (table n lines) ≡ named_locks x v.naming) (eqb-true k 1 one) (shown.naming x one)
+                ∙ ap (λ (y : Parts). named_locks x y.naming) (sym same)) none
+
             says : (q : BoundReply) → (naming.bind h.path x include avoid d.names o).reply ≡ Some q → Bound x include avoid o ≡ v →
                 says_of A hd k h (ask.Bind x include avoid) (Reply.Bound q) lines
-            says (bound.Live b s i g stores) at same = bind_kind h.path x include avoid d.names o (bound.Live b s i g stores) at
+            says (bound.Live b s i g stores) at same = (
+              bind_kind h.path x include avoid d.names o (bound.Live b s i g stores) at,
+              free mode.Read same (bind_clears h.path x (bound.Live b s i g stores) include avoid d.names o at),
+            )
             says (bound.Make b s g stores) at same = (
               bind_kind h.path x include avoid d.names o (bound.Make b s g stores) at,
               written (bound.Make b s g stores) refl at same,
+              free mode.Write same (bind_clears h.path x (bound.Make b s g stores) include avoid d.names o at),
             )
-            says (bound.Write g stores) at same = written (bound.Write g stores) refl at same
+            says (bound.Write g stores) at same = (
+              written (bound.Write g stores) refl at same,
+              free mode.Write same (bind_clears h.path x (bound.Write g stores) include avoid d.names o at),
+            )
             says (bound.Conflict u m) at same =
                 let z = bind_meets h.path x u m include avoid d.names o at in (
                   eqb-true k 1 one,

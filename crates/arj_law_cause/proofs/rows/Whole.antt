@@ -5,7 +5,7 @@ use Words.{Arm, Event, arith, append-nil, filter, at_place, Body, Header, Label,
 use Words.{append_assoc, first_reason, giving, subst, ◌==◌, ◌&&◌, ◌||◌, ◌⊎◌, ⊎_elim, In, inl, inr, and_parts, or_cases, eqb-true}
 use Words.{list_any-append}
 use Words.{happens, is_given, lacks_labels, limited, no_labels, node_in, node_of, numbered, reasons, run_event, run_unless, world_from}
-use Words.{Move, moved}
+use Words.{Move, moved, name}
 use Words.{Disk, Input, Parts}
 use Words.body
 use Rattle.arj_law_parts.proofs.Terms.which
@@ -28,7 +28,8 @@ use Rattle.arj_law_runs.proofs.follow.Refusing.{Came, IsRefused, IsRun, same_bod
 use Rattle.arj_law_runs.specs.addresses.Addresses.{AreAddressed}
 use Rattle.arj_law_runs.specs.follow.Frames.{FramesStep, are_so, run_events}
 use Rattle.arj_journal.specs.ScriptForm.{HeaderInForm}
-use Rattle.arj_model.specs.CauseSpans.{here_at}
+use Rattle.arj_model.specs.CauseSpans.{Here, here_at}
+use Rattle.arj_model.specs.Caused.{has_cause}
 use Rattle.arj_model.specs.Actions.{acts, path}
 use Rattle.arj_model.specs.Follows.{Runs}
 use Words.{◌≤◌, ◌<◌, AllByRecursion}
@@ -49,7 +50,9 @@ use Rattle.arj_law_cause.proofs.rows.Taking.{AskedPaths, Works, both_so}
 use Rattle.arj_law_cause.proofs.waits.lost.Bound.{Stocked, stocked_keep}
 use Rattle.arj_law_cause.proofs.rows.Entered.{IsSettled, settled_before}
 use Rattle.arj_law_cause.proofs.rows.Settled.{runs_settled}
-use Rattle.arj_law_cause.specs.rows.Lines.{AnswersHaveCauses, AnswersStep, answer_fits}
+use Rattle.arj_law_cause.proofs.kinds.Forms.{runs_too, so_too}
+use Rattle.arj_law_cause.specs.rows.Lines.{AnswersHaveCauses, AnswersStep, ConflictsAreExact, ExactStep, answer_fits}
+use Rattle.arj_law_cause.specs.rows.Lines.{include_is_free, is_exact, ok_is_free}
 
 none_is : {A P : Type 0} {x : A} → None ≡ Some x → P
 none_is {A} {P} {x} is = let no_way : ◌≡◌ {A = Option A} None (Some x) = is in absurd (cc no_way)
@@ -587,3 +590,18 @@ answers_are_caused hd r form =
       runs.3,
       runs.4,
     )
+
+-- so each of them is a conflict exactly where a lock stands
+pub conflicts_are_exact : ConflictsAreExact
+conflicts_are_exact hd r form = runs_too (AnswersStep hd) (ExactStep hd)
+    (λ p e bs all. so_too answer_fits is_exact fits (here_at hd p e bs) bs all) r.start (run_events hd r) (journal_by hd r)
+    (answers_are_caused hd r form)
+  where
+    second : (a b : Bool) → (a && b) ≡ true → b ≡ true
+    second a b is = (and_parts a b is).1
+
+    fits : (h : Here) (b : Body) → answer_fits h b ≡ true → is_exact h b ≡ true
+    fits h (body.Ok l x op answer) is = second (has_cause h (body.Ok l x op answer)) (ok_is_free h (name l) x op) is
+    fits h (body.Includes l x n) is = second (has_cause h (body.Includes l x n)) (include_is_free h (name l) x n) is
+    fits h (body.Conflict l u held n) is = is
+    fits h b is = refl

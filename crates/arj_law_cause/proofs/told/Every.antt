@@ -1,7 +1,7 @@
 -- Each line of a journal has its cause: what laws say of its kinds, one by one, holds of it together.
 use Rattle.arj_law_parts.proofs.Words
 use Words.{◌≡◌, ◌∙◌, ◌&&◌, ◌||◌, not, ℕ, Bool, true, false, List, [], ◌∷◌, refl, sym, and_parts, AllByRecursion, Body, Event, Header, Line}
-use Words.{journal_by}
+use Words.{journal_by, name}
 use Words.body
 use Words.cause
 use Words.ending
@@ -45,7 +45,7 @@ use Rattle.arj_law_cause.specs.kinds.Kinds.{is_granted_entry, is_granted_object,
 use Rattle.arj_law_cause.specs.kinds.Kinds.{is_lost_commit, is_met_abort, is_node_given_up, is_old_abort, is_opening, is_prepared, is_quiet}
 use Rattle.arj_law_cause.specs.kinds.Kinds.{is_sent, is_told, is_up, is_void}
 use Rattle.arj_law_cause.specs.kinds.Rows.{row}
-use Rattle.arj_law_cause.specs.rows.Lines.{answer_fits}
+use Rattle.arj_law_cause.specs.rows.Lines.{answer_fits, include_is_free, ok_is_free}
 
 -- ---- tests of lines together
 
@@ -237,11 +237,16 @@ module _ (hd : Header) (r : Run hd) (form : IsInForm hd r) where
     ((λ h c. refl, old_row hd r form), ((λ h c. refl, changed_row hd r form), others_known)),
   )
 
+-- the first of both holds
+first_of : (a b : Bool) → ((a && b) && true) ≡ true → a ≡ true
+first_of true b is = refl
+first_of false b is = is
+
 -- a line that passes all has its cause
 why : (h : Here) (b : Body) → all_of tests h b ≡ true → has_cause h b ≡ true
 why h (body.Began l k u p) is = (and_parts (has_cause h (body.Began l k u p)) true is).0
-why h (body.Ok l x op answer) is = (and_parts (has_cause h (body.Ok l x op answer)) true is).0
-why h (body.Includes l x n) is = (and_parts (has_cause h (body.Includes l x n)) true is).0
+why h (body.Ok l x op answer) is = first_of (has_cause h (body.Ok l x op answer)) (ok_is_free h (name l) x op) is
+why h (body.Includes l x n) is = first_of (has_cause h (body.Includes l x n)) (include_is_free h (name l) x n) is
 why h (body.Lost l n) is = (and_parts (has_cause h (body.Lost l n)) true is).0
 why h (body.Committing l) is = (and_parts (has_cause h (body.Committing l)) true is).0
 why h (body.Ended l) is = (and_parts (has_cause h (body.Ended l)) true is).0

@@ -43,7 +43,7 @@ use Rattle.arj_law_cause.proofs.told.{Joined.journals_follow, Together.together}
 use Rattle.arj_law_cause.proofs.waits.waiting.Lists.{any_in}
 use Rattle.arj_law_cause.specs.kinds.Kinds.{is_granted_entry}
 use Rattle.arj_law_cause.specs.kinds.Rows.{RowHolds, RowStep, TestedStep, row, tested}
-use Rattle.arj_law_cause.specs.rows.Lines.{AnswersStep, answer_fits}
+use Rattle.arj_law_cause.specs.rows.Lines.{AnswersStep, answer_fits, include_is_free}
 
 -- ---- what was asked
 
@@ -202,7 +202,8 @@ asked_behind h right pathed asked b fits i there t top =
         let its_top : top_in (path (acts h.lines) (name l)) ≡ Some t = ap (λ (w : last.Inclusion). top_in w.path) (some_is some) ∙ top in (
           later t (in_path (acts h.lines) (name l) t (top_on (path (acts h.lines) (name l)) t its_top)),
           subst (λ y. list_any (uses_below t.uid y) h.accepted ≡ true) (ap (λ (w : last.Inclusion). w.x) (some_is some))
-              (include_asked h right pathed (name l) x n t its_top its),
+              (include_asked h right pathed (name l) x n t its_top
+              (and_parts (includes_caused h (name l) x n) (include_is_free h (name l) x n) its).0),
         )
     by c its none = let no_way : ◌≡◌ {A = Option last.Inclusion} None (Some i.it) = none in absurd (cc no_way)
 

@@ -7,6 +7,7 @@ use Rattle.arj_law_cause.proofs.quiesces.Alone.{runs_answer_alone}
 use Rattle.arj_law_cause.proofs.quiesces.Framed.{runs_send_few}
 use Rattle.arj_law_cause.proofs.quiesces.Rounds.{runs_answer, runs_end_rounds}
 use Rattle.arj_law_cause.proofs.leading.Runs.{runs_fit}
+use Rattle.arj_law_cause.proofs.rows.Whole.{conflicts_are_exact}
 use Rattle.arj_law_cause.proofs.told.Every.{lines_have_causes}
 use Rattle.arj_law_cause.proofs.told.Joined.{journals_follow}
 use Rattle.arj_law_cause.proofs.waits.replies.Running.{replies_end}
@@ -26,6 +27,7 @@ pub journals_tell : JournalsTell
 journals_tell hd r form = record {
   follows = journals_follow hd r form;
   causes = lines_have_causes hd r form;
+  conflicts = conflicts_are_exact hd r form;
   replies = replies_end hd r form;
   quiesces = quiesces_told hd r form;
 }

@@ -12,6 +12,7 @@ use Rattle.arj_law_cause.specs.rounds.Fits.{FewFit}
 use Rattle.arj_law_cause.specs.rounds.Quiesces.{QuiescesStep}
 use Rattle.arj_law_cause.specs.rounds.Rounds.{EndsRounds}
 use Rattle.arj_law_cause.specs.rounds.Sends.{SendsStep}
+use Rattle.arj_law_cause.specs.rows.Lines.{ExactStep}
 use Rattle.arj_law_cause.specs.waits.replies.Ends.{RepliesStep}
 
 -- What quiesces answer, what rounds of them leave, and how many frames events send.
@@ -34,6 +35,9 @@ pub record TellsItsCauses (hd : Header) (st : Start) (es : List Event) (journal 
   pub follows : Follows hd st es journal
   -- each line has its cause, by the header, by what the run began with, by the events and by the lines before it
   pub causes : JHasCauses hd st es journal
+  -- A line that answers a call or an include says a conflict exactly where a lock stands against it, or a store has another top's state in
+  -- doubt: at a place of its span, which on one node is the event itself.
+  pub conflicts : Runs (ExactStep hd) st es journal
   -- a line that answers a call or an include is to the one that its action waits for, and behind it that waits for none
   pub replies : Runs (RepliesStep hd) st es journal
   pub quiesces : TellsQuiesces hd st es journal
