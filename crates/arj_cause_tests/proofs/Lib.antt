@@ -19,5 +19,6 @@ pub mod WrongEvents
 mod WrongNodes
 mod WrongRuns
 pub mod WrongQuiesces
+mod WrongSettles
 mod WrongShows
 mod runs

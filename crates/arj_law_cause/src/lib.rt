@@ -16,7 +16,7 @@
 //! `copies_have_causes`, `locks_lowered_have_causes`, `lost_commits_have_causes`, `giveups_have_causes`, `refused_commits_have_causes`,
 //! `preparations_have_causes`, `commits_are_called`, `exclusions_have_causes`; `messages_can_be_spelled`, `journals_are_in_form`;
 //! `journals_tell_how_nodes_are`, `quiesces_answer_who_waits`, `rounds_end_quiet`, `asked_alone_is_answered`, `events_send_few_frames`,
-//! `few_events_meet_no_limit`.
+//! `few_events_meet_no_limit`, `settles_answer_who_waits`.
 #![tactic(auto)]
 
 mod answers;
@@ -51,6 +51,7 @@ pub use refused::{
 pub use rounds::{
     asked_alone_is_answered, events_send_few_frames, few_events_meet_no_limit,
     journals_tell_how_nodes_are, quiesces_answer_who_waits, rounds_end_quiet,
+    settles_answer_who_waits,
 };
 pub use tables::tables_agree_inside_events;
 pub use telling::{

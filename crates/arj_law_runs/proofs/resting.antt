@@ -15,6 +15,7 @@ pub mod Worlds
 pub mod Fits
 pub mod Settles
 pub mod Quiesces
+pub mod Acting
 pub mod Endings
 pub mod Quiets
 pub mod GiveUps

@@ -122,7 +122,7 @@ steps_left n i w k x = by (at_place n w.nodes) refl
 -- ---- an event on one node
 
 -- a commit that waits waits for some node
-some_left : (M : Seen) → IsGood M → (k : ℕ) (n : Node) (t : Parts) → M.nodes k ≡ Some n → n.live ≡ Some t →
+pub some_left : (M : Seen) → IsGood M → (k : ℕ) (n : Node) (t : Parts) → M.nodes k ≡ Some n → n.live ≡ Some t →
     (u : Uid) (q : Doing) (m : Machine) →
     doing_of u t.coord ≡ Some q → q.now ≡ Committing m → left_of m ≡ [] → ⊥
 some_left M good k n t found live u q m does now none =
@@ -447,7 +447,7 @@ one_act (x ∷ xs) a b apart (inr i) (inl two) same =
 one_act (x ∷ xs) a b apart (inr i) (inr j) same = one_act xs a b apart.3 i j same
 
 -- an action that isn't there is refused
-named_branch : (r : Branch → Coord → List (ℕ × Bool)) (c : Coord) (o : Option Branch) → refused_by r c o ≡ None →
+pub named_branch : (r : Branch → Coord → List (ℕ × Bool)) (c : Coord) (o : Option Branch) → refused_by r c o ≡ None →
     (br : Branch) × (o ≡ Some br)
 named_branch r c None free = let no_way : ◌≡◌ {A = Option ℕ} (Some 6) None = free in absurd (cc no_way)
 named_branch r c (Some br) free = (br, refl)

@@ -44,7 +44,8 @@ use Rattle.arj_law_cause.proofs.told.Joined as joined
 use Rattle.arj_law_cause.proofs.waits.waiting.Lists.{any_in}
 use Rattle.arj_law_cause.specs.follow.lines.Lines.{HasLines, LinesStep, may_stand_or_lose}
 use Rattle.arj_law_cause.specs.rounds.Known.{has_limit}
-use Rattle.arj_law_cause.specs.rounds.Quiesces.{Answers, IsWhole, SaysQuiet, answers_call, answers_commit, is_bound_twice, is_outdone}
+use Rattle.arj_law_cause.specs.rounds.Quiesces.{Answers, IsWhole, SaysQuiet, answers_call, answers_commit, cuts_short, is_bound_twice}
+use Rattle.arj_law_cause.specs.rounds.Quiesces.{is_outdone}
 use Rattle.arj_law_cause.specs.rounds.Quiesces.{is_given_up, is_overtaken, makes_later}
 use Rattle.arj_law_cause.specs.waits.commits.Commits.{CommitsFit, CommitsStep}
 use Rattle.arj_law_cause.specs.waits.lost.Lost.{LostStep, is_lost}
@@ -270,6 +271,24 @@ module _ (hd : Header) (form : HeaderInForm hd) (front : Run hd) (m : Move) (q :
             ∙ ap (λ (z : World). z.lines) (sym longer_is)) ∙ o.2,
       )
 
+-- ---- an event that nothing cuts short
+
+module _ (hd : Header) (form : HeaderInForm hd) (front : Run hd) (m : Move) (p : Past) (bodies : List Body)
+    (s : Kept hd form p (world_by hd front)) (after : Kept hd form (next p (event_of m) bodies) (moved m (world_by hd front)))
+    (whole : list_any cuts_short bodies ≡ false) where
+  lines_on : (moved m (world_by hd front)).lines ≡ (world_by hd front).lines ++ block (p.count + 1) bodies
+  lines_on = sym (ties.same_lines hd form (next p (event_of m) bodies) (moved m (world_by hd front)) after.all)
+      ∙ ap (λ ls. ls ++ block (p.count + 1) bodies) (ties.same_lines hd form p (world_by hd front) s.all)
+
+  -- whoever is up stays up
+  pub stays_up : AreUp (world_by hd front) → AreUp (moved m (world_by hd front))
+  stays_up up = all_stay_up hd front (m ∷ []) up (block (p.count + 1) bodies, lines_on, none_halts (p.count + 1) bodies whole)
+
+  -- and the run goes on
+  pub stays_on : (world_by hd front).over ≡ false → (moved m (world_by hd front)).over ≡ false
+  stays_on on = after.limits ∙ ap has_limit lines_on ∙ limit_on (world_by hd front).lines (block (p.count + 1) bodies)
+      ∙ (λ i. (sym s.limits ∙ on) i || none_limits (p.count + 1) bodies whole i)
+
 -- ---- a quiesce that nothing cuts short
 
 module _ (hd : Header) (form : HeaderInForm hd) (front : Run hd) (m : Move) (p : Past) (bodies : List Body)
@@ -290,7 +309,7 @@ module _ (hd : Header) (form : HeaderInForm hd) (front : Run hd) (m : Move) (p :
   is = quiesce_is (event_of m) whole.quiesces
 
   lines_are : v.lines ≡ w.lines ++ block (p.count + 1) bodies
-  lines_are = sym (ties.same_lines hd form q v after.all) ∙ ap (λ ls. ls ++ block (p.count + 1) bodies) (ties.same_lines hd form p w s.all)
+  lines_are = lines_on hd form front m p bodies s after whole.whole
 
   its : Lines bodies
   its = its_lines hd p bodies (subst (λ x. LinesStep hd p x bodies) is step.1.0.0.0)
@@ -305,11 +324,10 @@ module _ (hd : Header) (form : HeaderInForm hd) (front : Run hd) (m : Move) (p :
   up = ties.all_up hd form p w s.all whole.up
 
   pub still_up : AreUp v
-  still_up = all_stay_up hd front (m ∷ []) up (block (p.count + 1) bodies, lines_are, none_halts (p.count + 1) bodies whole.whole)
+  still_up = stays_up hd form front m p bodies s after whole.whole up
 
   pub goes_on : v.over ≡ false
-  goes_on = after.limits ∙ ap has_limit lines_are ∙ limit_on w.lines (block (p.count + 1) bodies)
-      ∙ (λ i. (sym s.limits ∙ on) i || none_limits (p.count + 1) bodies whole.whole i)
+  goes_on = stays_on hd form front m p bodies s after whole.whole on
 
   -- ---- at its end
 

@@ -115,7 +115,7 @@ module _ (hd : Header) (form : HeaderInForm hd) where
   pub keeps : KeepsAsked hd P
   keeps = keeps_good hd (AllKnown hd) (all_kept hd form)
 
-  gives : AnswersWaits hd P
+  pub gives : AnswersWaits hd P
   gives = all_answer hd form P (λ M p. p.0)
 
   pub homes : (k : ℕ) (d : Disk) (t : Parts) (M : Seen) → P (up k d t M) → IsHome t.coord

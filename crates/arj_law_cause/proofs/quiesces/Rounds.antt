@@ -187,7 +187,7 @@ module _ (hd : Header) (form : HeaderInForm hd) where
         answered.says_quiet hd form front n p bodies s_in on_in step after_in whole,
       )
 
-  behind_on : (p : Past) (xs ys : List Did) → behind p (xs ++ ys) ≡ behind (behind p xs) ys
+  pub behind_on : (p : Past) (xs ys : List Did) → behind p (xs ++ ys) ≡ behind (behind p xs) ys
   behind_on p [] ys = refl
   behind_on p (x ∷ xs) ys = behind_on (next p x.event x.bodies) xs ys
 
@@ -299,11 +299,11 @@ module _ (hd : Header) (form : HeaderInForm hd) where
   none_moved : (left : List Move) (w v : World) → v ≡ all_moved left w → left ≡ [] → v ≡ w
   none_moved left w v end none = subst (λ ns. v ≡ all_moved ns w) none end
 
-  -- where a round ends the run disks hold all
-  end_holds : (r : Run hd) → IsInForm hd r → (w : World) (left : List Move) (p : Past) → EndsQuiet w → w.over ≡ false → Kept hd form p w →
-      (left ≡ []) ⊎ ((all_moved left w).over ≡ true) → world_by hd r ≡ all_moved left w → journal_by hd r ≡ p.lines → (disks : Disks) →
-      HasDisks hd r disks → HoldAllStates hd r.start.marks (journal_by hd r) disks
-  end_holds r its w left p quiet on kept stops end lines disks has = quiet_hold hd r disks its q.idle has
+  -- a run that stops at a world that isn't over, and whose journal ends there, ends in it
+  pub ends_at : (r : Run hd) → IsInForm hd r → (w : World) (left : List Move) (p : Past) → w.over ≡ false → Kept hd form p w →
+      (left ≡ []) ⊎ ((all_moved left w).over ≡ true) → world_by hd r ≡ all_moved left w → journal_by hd r ≡ p.lines → world_by hd r ≡ w
+  ends_at r its w left p on kept stops end lines =
+      ⊎_elim {C = world_by hd r ≡ w} (λ all. none_moved left w (world_by hd r) end all) never stops
     where
       free : has_limit (journal_by hd r) ≡ false
       free = ap has_limit (lines ∙ ties.same_lines hd form p w kept.all) ∙ sym kept.limits ∙ on
@@ -314,11 +314,13 @@ module _ (hd : Header) (form : HeaderInForm hd) where
       never : (all_moved left w).over ≡ true → world_by hd r ≡ w
       never over = let no_way : true ≡ false = sym over ∙ ap (λ (z : World). z.over) (sym end) ∙ limits ∙ free in absurd (cc no_way)
 
-      stays : world_by hd r ≡ w
-      stays = ⊎_elim {C = world_by hd r ≡ w} (λ all. none_moved left w (world_by hd r) end all) never stops
-
-      q : EndsQuiet (world_by hd r)
-      q = subst EndsQuiet (sym stays) quiet
+  -- where a round ends the run disks hold all
+  end_holds : (r : Run hd) → IsInForm hd r → (w : World) (left : List Move) (p : Past) → EndsQuiet w → w.over ≡ false → Kept hd form p w →
+      (left ≡ []) ⊎ ((all_moved left w).over ≡ true) → world_by hd r ≡ all_moved left w → journal_by hd r ≡ p.lines → (disks : Disks) →
+      HasDisks hd r disks → HoldAllStates hd r.start.marks (journal_by hd r) disks
+  end_holds r its w left p quiet on kept stops end lines disks has =
+      let q : EndsQuiet (world_by hd r) = subst EndsQuiet (sym (ends_at r its w left p on kept stops end lines)) quiet in
+      quiet_hold hd r disks its q.idle has
 
   ended_holds : (r : Run hd) → IsInForm hd r → (done left : List Move) (p : Past) (round : List Did) (second : Did) →
       r.moves ≡ done ++ left →

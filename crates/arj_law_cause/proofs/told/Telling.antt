@@ -6,6 +6,7 @@ use Rattle.arj_promise.specs.Runs.{IsInForm, Run}
 use Rattle.arj_law_cause.proofs.quiesces.Alone.{runs_answer_alone}
 use Rattle.arj_law_cause.proofs.quiesces.Framed.{runs_send_few}
 use Rattle.arj_law_cause.proofs.quiesces.Rounds.{runs_answer, runs_end_rounds}
+use Rattle.arj_law_cause.proofs.quiesces.Settled.{runs_settle}
 use Rattle.arj_law_cause.proofs.leading.Runs.{runs_fit}
 use Rattle.arj_law_cause.proofs.rows.Whole.{conflicts_are_exact}
 use Rattle.arj_law_cause.proofs.told.Every.{lines_have_causes}
@@ -18,6 +19,7 @@ quiesces_told : (hd : Header) (r : Run hd) → IsInForm hd r → TellsQuiesces h
 quiesces_told hd r form = record {
   answers = runs_answer hd r form;
   rounds = runs_end_rounds hd r form;
+  settles = runs_settle hd r form;
   alone = runs_answer_alone hd r form;
   sends = runs_send_few hd r form;
   fits = runs_fit hd r form;

@@ -1,5 +1,5 @@
 -- What a journal says of why it is so, by the header, by what the run began with, by its events and its own lines alone. Each field but
--- `rounds` goes event by event: of an event, of what was before it, and of the lines that it wrote.
+-- `rounds`, `settles` and `fits` goes event by event: of an event, of what was before it, and of the lines that it wrote.
 use Rattle.std.specs.Prelude.{List}
 use Rattle.arj_journal.specs.declared.body.Line.{Line}
 use Rattle.arj_journal.specs.declared.event.Event.{Event}
@@ -12,20 +12,23 @@ use Rattle.arj_law_cause.specs.rounds.Fits.{FewFit}
 use Rattle.arj_law_cause.specs.rounds.Quiesces.{QuiescesStep}
 use Rattle.arj_law_cause.specs.rounds.Rounds.{EndsRounds}
 use Rattle.arj_law_cause.specs.rounds.Sends.{SendsStep}
+use Rattle.arj_law_cause.specs.rounds.Settles.{SettlesAnswer}
 use Rattle.arj_law_cause.specs.rows.Lines.{ExactStep}
 use Rattle.arj_law_cause.specs.waits.replies.Ends.{RepliesStep}
 
--- What quiesces answer, what rounds of them leave, and how many frames events send.
+-- What quiesces and settles answer, what rounds of quiesces leave, and how many frames events send.
 pub record TellsQuiesces (hd : Header) (st : Start) (es : List Event) (journal : List Line) : Type 0 where
   -- a quiesce in which no node is down, and no limit met, answers whoever waits, but for calls that are overtaken
   pub answers : Runs (QuiescesStep hd) st es journal
   -- a round of such quiesces, with giveups of what waits between them, ends with a line that all is quiet
   pub rounds : EndsRounds hd st es journal
+  -- where a node asked again, and nothing is lost since, a settle leaves there only calls waiting that are overtaken
+  pub settles : SettlesAnswer hd st es journal
   -- on one node nobody waits for a quiesce: what is asked is answered in its own event
   pub alone : Runs (AloneStep hd) st es journal
-  -- an event sends so many frames at most, but for ticks, restarts, settles, quiesces and deliveries of a hello
+  -- an event sends so many frames at most
   pub sends : Runs (SendsStep hd) st es journal
-  -- few events, none of them a tick, a restart, a settle or a quiesce, meet no limit of frames
+  -- few events meet no limit of frames
   pub fits : FewFit hd es journal
 
 -- All of this, and what each event writes.

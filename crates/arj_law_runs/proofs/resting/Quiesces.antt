@@ -69,23 +69,23 @@ doing_there u c q = by (is_own u c.tree)
 -- ---- what is brought
 
 -- what answers whoever waits at these nodes is under way
-abbrev Ways : (ℕ → Type 0) → (ℕ → Option Node) → (Post → Type 0) → (Body → Type 0) → Type 0
+abbrev pub Ways : (ℕ → Type 0) → (ℕ → Option Node) → (Post → Type 0) → (Body → Type 0) → Type 0
 Ways nodes found F B = AreBrought nodes (coords found) F B
 
 module _ (hd : Header) (P : Seen → Type 0) (gives : AnswersWaits hd P) (homes : (k : ℕ) (d : Disk) (t : Parts) (M : Seen) → P (up k d t M) →
     IsHome t.coord) where
-  ways_more : (nodes : ℕ → Type 0) (found : ℕ → Option Node) (F U : Post → Type 0) (B D : Body → Type 0) → SameWay F U →
+  pub ways_more : (nodes : ℕ → Type 0) (found : ℕ → Option Node) (F U : Post → Type 0) (B D : Body → Type 0) → SameWay F U →
       ((b : Body) → B b → D b) → Ways nodes found F B → Ways nodes found U D
   ways_more nodes found F U B D on said a = brought_more nodes (coords found) F U B D on.0 said a
 
-  ways_fewer : (nodes other : ℕ → Type 0) (found : ℕ → Option Node) (F : Post → Type 0) (B : Body → Type 0) →
+  pub ways_fewer : (nodes other : ℕ → Type 0) (found : ℕ → Option Node) (F : Post → Type 0) (B : Body → Type 0) →
       ((k : ℕ) → other k → nodes k) → Ways nodes found F B → Ways other found F B
   ways_fewer nodes other found F B less c = record {
     calls = λ k e u q s there is does now. c.calls k e u q s (less k there) is does now;
     commits = λ k e u q m n there is does now left. c.commits k e u q m n (less k there) is does now left;
   }
 
-  ways_message : (nodes : ℕ → Type 0) (n : ℕ) (d : Disk) (t : Parts) (from : ℕ) (m : Message) (M : Seen) → P (up n d t M) →
+  pub ways_message : (nodes : ℕ → Type 0) (n : ℕ) (d : Disk) (t : Parts) (from : ℕ) (m : Message) (M : Seen) → P (up n d t M) →
       In (post_of from n m) M.sent → (F G : Post → Type 0) (B : Body → Type 0) → F (post_of from n m) → AllBut (post_of from n m) F G →
       ((q : Post) → G q → F q)
       → ((b : Body) → IsSaid M.lines b → B b) → Ways nodes (up n d t M).nodes F B →
@@ -109,7 +109,7 @@ module _ (hd : Header) (P : Seen → Type 0) (gives : AnswersWaits hd P) (homes 
           (coords (with_here n (record { disk = works outs d; parts = v }) M.nodes)) (Then G n outs) B (same v outs) b
 
   -- after its tick a node's own are brought too
-  ways_ticked : (nodes : ℕ → Type 0) (n : ℕ) (d : Disk) (t : Parts) (M : Seen) → P (up n d t M) → (F : Post → Type 0) (B : Body → Type 0) →
+  pub ways_ticked : (nodes : ℕ → Type 0) (n : ℕ) (d : Disk) (t : Parts) (M : Seen) → P (up n d t M) → (F : Post → Type 0) (B : Body → Type 0) →
       Ways nodes (up n d t M).nodes F B
       → let outs = tick_outs (record { number = n; disk = d; live = Some t }) t in Ways (Also nodes n) (with_here n
       (record { disk = works outs d; parts = with_coord t (again_all t.coord.doings t.coord).part }) M.nodes) (Then F n outs) B
@@ -182,14 +182,13 @@ module _ (hd : Header) (P : Seen → Type 0) (gives : AnswersWaits hd P) (homes 
           (machine_asked u m e j (home.commits u q m here now) left)) in
           subst (λ i. HasWay (Then F n outs) i (want_of_commit u m j)) (sym (eqb-true k n same)) (sent (want_of_commit u m j) asked)
 
--- where nothing is under way nobody waits who isn't overtaken
-nobody_waits : (hd : Header) (w : World) → w.header ≡ hd → lowest_from 1 w.frames ≡ None →
-    AreBrought (Of hd) (coords (λ k. at_place k w.nodes)) (Under w.frames) (IsSaid w.lines) → WaitOvertaken w
-nobody_waits hd w same none c k e u q node found does waits = by q.now refl waits
+-- where nothing is under way nobody waits at these nodes who isn't overtaken
+pub waits_only : (nodes : ℕ → Type 0) (w : World) → lowest_from 1 w.frames ≡ None →
+    Ways nodes (λ k. at_place k w.nodes) (Under w.frames) (IsSaid w.lines) → (k : ℕ) (e : Coord) (u : Uid) (q : Doing) → nodes k →
+    coord_in (at_place k w.nodes) ≡ Some e → doing_of u e ≡ Some q → is_waiting_now q.now ≡ true →
+    ((s : Steps) × (q.now ≡ Calling s) × IsOvertaken (IsSaid w.lines) s) ⊎ ((m : Machine) × (q.now ≡ Committing m) × (left_of m ≡ []))
+waits_only nodes w none c k e u q of found does waits = by q.now refl waits
   where
-    of : Of hd k
-    of = subst (λ (x : Header). (nat_le 1 k && nat_le k x.nodes) ≡ true) same node
-
     no_way : {A : Type 0} (want : Want) → HasWay (Under w.frames) k want → A
     no_way want way = let u = way.under_way in absurd (none_under 1 w.frames none u.frame u.there u.opened)
 
@@ -206,6 +205,12 @@ nobody_waits hd w same none c k e u q node found does waits = by q.now refl wait
     by Idle now waits = absurd (cc waits)
     by (Calling s) now waits = inl (s, now, ⊎_elim (λ o. o) (λ way. no_way (want_of_call u s) way) (c.calls k e u q s of found does now))
     by (Committing m) now waits = inr (m, now, waits_for (left_of m) m refl now)
+
+-- nor at any node of the header
+nobody_waits : (hd : Header) (w : World) → w.header ≡ hd → lowest_from 1 w.frames ≡ None →
+    AreBrought (Of hd) (coords (λ k. at_place k w.nodes)) (Under w.frames) (IsSaid w.lines) → WaitOvertaken w
+nobody_waits hd w same none c k e u q node = waits_only (Of hd) w none c k e u q
+    (subst (λ (x : Header). (nat_le 1 k && nat_le k x.nodes) ≡ true) same node)
 
 -- a line more
 waits_said : (c : World) (b : Body) → WaitOvertaken c → WaitOvertaken (says (b ∷ []) c)

@@ -33,10 +33,10 @@ use Rattle.arj_protocol.specs.Ending.{is_over}
 
 -- ---- a message that ends, acknowledges, asks about or greets
 
-abbrev acked_of : Uid → Message
+abbrev pub acked_of : Uid → Message
 acked_of u = message.Acked (record { act = u })
 
-abbrev query_of : Uid → Message
+abbrev pub query_of : Uid → Message
 query_of u = message.Query (record { act = u })
 
 -- the action of a question or an acknowledgement
@@ -47,14 +47,14 @@ act_in u m = u
 
 -- What a node leaves of such a message: the same work, effects that prepare nothing, of what is told no more than before without what was
 -- acknowledged, of what is prepared no more than before without what was told; an acknowledgement, and an answer to a question.
-record Leaves (n from : ℕ) (m : Message) (d : Disk) (t v : Parts) (outs : List Effect) (asked : Uid → Type 0) : Type 0 where
-  idle : v.coord.doings ≡ t.coord.doings
-  only : OnlyEnd outs
-  telling : (u : Uid) (i : Intent) (j : ℕ) → at_uid u v.coord.telling ≡ Some i → has i.nodes j ≡ true →
+pub record Leaves (n from : ℕ) (m : Message) (d : Disk) (t v : Parts) (outs : List Effect) (asked : Uid → Type 0) : Type 0 where
+  pub idle : v.coord.doings ≡ t.coord.doings
+  pub only : OnlyEnd outs
+  pub telling : (u : Uid) (i : Intent) (j : ℕ) → at_uid u v.coord.telling ≡ Some i → has i.nodes j ≡ true →
       (q : Intent) × (at_uid u t.coord.telling ≡ Some q) × (has q.nodes j ≡ true) × (from ≡ j → m ≡ acked_of u → ⊥)
-  prepared : (u : Uid) → IsPrepared u (works outs d) → IsPrepared u d × (TellsLast u m → ⊥)
-  acked : (u : Uid) → TellsCommit u m → members.In (Send from (acked_of u)) outs
-  answered : (u : Uid) → asked u → m ≡ query_of u → (x : Message) × members.In (Send from x) outs × TellsLast u x
+  pub prepared : (u : Uid) → IsPrepared u (works outs d) → IsPrepared u d × (TellsLast u m → ⊥)
+  pub acked : (u : Uid) → TellsCommit u m → members.In (Send from (acked_of u)) outs
+  pub answered : (u : Uid) → asked u → m ≡ query_of u → (x : Message) × members.In (Send from x) outs × TellsLast u x
 
 module _ (of nodes : ℕ → Type 0) (n from : ℕ) (m : Message) (d : Disk) (t : Parts) (M : Seen) (F G : Post → Type 0)
     (less : AllBut (post_of from n m) F G) (back : (q : Post) → G q → F q) (settling : AreSettling of nodes (up n d t M).nodes F) where
@@ -349,7 +349,7 @@ module _ (n from : ℕ) (d : Disk) (t : Parts) (order : AreKept d t) (home : (u 
   -- ---- all of them
 
   -- What a node makes of a message that neither asks nor answers: it takes it, or it is void and acknowledges nothing that is awaited.
-  data IsHandled (m : Message) : Handled → Type 0 where
+  pub data IsHandled (m : Message) : Handled → Type 0 where
     IsTaken : (v : Parts) (outs : List Effect) → Leaves n from m d t v outs asked → IsHandled m (Took v outs)
     IsNothing : (outs : List Effect) → Leaves n from m d t t [] asked → IsHandled m (Void outs)
 
@@ -392,7 +392,7 @@ module _ (n from : ℕ) (d : Disk) (t : Parts) (order : AreKept d t) (home : (u 
           (unawaited act (λ i there on. let no_way : ◌≡◌ {A = Option Intent} None (Some i) = sym none ∙ there in absurd (cc no_way)))
       by (Some i) at = one i at (has i.nodes from) refl
 
-  handled : (m : Message) → asks m ≡ None → answers m ≡ None → ((act : Uid) → m ≡ query_of act → asked act →
+  pub handled : (m : Message) → asks m ≡ None → answers m ≡ None → ((act : Uid) → m ≡ query_of act → asked act →
       (is_open act t.coord.tree ≡ false) × (is_deferred act d.intents from ≡ false)) → IsHandled m (taken n d t from m)
   handled (message.Told x) silent mute over = by (last_end x.ends) refl
     where
@@ -507,7 +507,7 @@ module _ (hd : Header) (P : Seen → Type 0) (gives : SettlesAll hd P) where
       ∙ (let rest = idle_again ds c idle.1 in λ i. let y : Did Coord = rest i in record { part = y.part; outs = y.outs })
 
   -- what is told again
-  told_again : (u : Uid) (i : Intent) (j : ℕ) (telling : List (Uid × Intent)) → members.In (u, i) telling → has i.nodes j ≡ true →
+  pub told_again : (u : Uid) (i : Intent) (j : ℕ) (telling : List (Uid × Intent)) → members.In (u, i) telling → has i.nodes j ≡ true →
       members.In (Send j (message.Told (record { root = i.root; ack = true; ends = (u, ending.Commit) ∷ [] }))) (tolds_again telling)
   told_again u i j [] there on = absurd there
   told_again u i j (e ∷ es) (inl is) on = in_left _ (tell_all e.1.root true ((e.0, ending.Commit) ∷ []) e.1.nodes) (tolds_again es) (subst

@@ -293,7 +293,7 @@ up_before k n a s w arm there down is = by arm is
         two false h = put_there (record a { disk = (cut (r.works - 1) r.how s.halting a.disk).disk; live = None }) (λ none. refl) h
 
 -- a node that is up behind its own step wasn't stopped in it: whatever holds of what was done
-was_done : (P : World → Type 0) (n : ℕ) (a : Node) (s : Step) (w : World) (arm : Option Arm) → at_place n w.nodes ≡ Some a →
+pub was_done : (P : World → Type 0) (n : ℕ) (a : Node) (s : Step) (w : World) (arm : Option Arm) → at_place n w.nodes ≡ Some a →
     is_up_at n (step_with n a s w arm) ≡ true
     → ((arms : List (ℕ × Arm)) → P (done_step n s (record w { arms = arms }))) → P (step_with n a s w arm)
 was_done P n a s w None there is each = each w.arms
@@ -450,7 +450,7 @@ module _ (I : (ℕ → Option Node) → (Post → Type 0) → (Body → Type 0) 
   Flown w = I (nodes_in w) (Under w.frames) (IsSaid w.lines)
 
   -- a step that was done
-  done_flown : (n : ℕ) (a : Node) (h : Here) (outs halting : List Effect) (w : World) → at_place n w.nodes ≡ Some a →
+  pub done_flown : (n : ℕ) (a : Node) (h : Here) (outs halting : List Effect) (w : World) → at_place n w.nodes ≡ Some a →
       let s : Step = record { outs = outs; halting = halting; after = record { number = n; disk = h.disk; live = Some h.parts } } in
       (done_step n s w).full ≡ false
       → I (with_here n h (nodes_in w)) (Then (Under w.frames) n outs) (λ b. IsSaid w.lines b ⊎ members.In (Say b) outs) →
@@ -470,7 +470,7 @@ module _ (I : (ℕ → Option Node) → (Post → Type 0) → (Body → Type 0) 
 module _ (hd : Header) (P : Seen → Type 0) (keeps : KeepsAsked hd P) (I : (ℕ → Option Node) → (Post → Type 0) → (Body → Type 0) →
     Type 0) (more : MayGrow I) (message : MessagesKeep P I) where
   -- a whole step of what a handler did, behind some lines
-  did_flown : (n : ℕ) (d : Disk) (v : Parts) (before outs : List Effect) (G : Post → Type 0) (sent : List Post) (w : World) (a : Node) →
+  pub did_flown : (n : ℕ) (d : Disk) (v : Parts) (before outs : List Effect) (G : Post → Type 0) (sent : List Post) (w : World) (a : Node) →
       at_place n w.nodes ≡ Some a → SameWay G (Under w.frames) → ((to : ℕ) (m : Message) → members.In (Send to m) before → ⊥)
       → Walks P w.event n outs (Up P n v) d (see sent w) →
       I (with_here n (record { disk = works outs d; parts = v }) (nodes_in w)) (Then G n outs) (IsSaid w.lines)
