@@ -12,25 +12,33 @@ use arj_journal_reader::{LineFault, read_line};
 use std::alloc::{AllocError, Global};
 use std::test::Fail;
 
+fn lines_are_right(alloc: Global) -> Result<bool, AllocError> {
+    for (place, text) in LINES.iter().enumerate() {
+        if !has_text(alloc, body_at(alloc, place)?, text)? {
+            return Ok(false);
+        }
+    }
+    Ok(true)
+}
+
+fn calls_are_right(alloc: Global) -> Result<bool, AllocError> {
+    for (place, text) in CALLS.iter().enumerate() {
+        if !has_text(alloc, call_at(alloc, place)?, text)? {
+            return Ok(false);
+        }
+    }
+    Ok(true)
+}
+
 #[test]
 fn lines_have_their_texts(rt: HostRuntime) -> Result<(), Fail> {
-    for (place, text) in LINES.iter().enumerate() {
-        assert!(rt;
-            has_text(rt.alloc(), body_at(rt.alloc(), place)?, text)?,
-            "{text}"
-        );
-    }
-    for (place, text) in CALLS.iter().enumerate() {
-        assert!(rt;
-            has_text(rt.alloc(), call_at(rt.alloc(), place)?, text)?,
-            "{text}"
-        );
-    }
+    assert!(rt; lines_are_right(rt.alloc())?);
+    assert!(rt; calls_are_right(rt.alloc())?);
     Ok(())
 }
 
 // The texts of lines of event 20, behind its number.
-const LINES: [&str; 46] = [
+const LINES: &[&str] = &[
     "began A top 1.1.1 -",
     "began Abcdefghij012345 nested 1.1.2 A",
     "began A independent 1.1.1 Abcdefghij012345",
@@ -308,7 +316,7 @@ fn node_body(alloc: Global, place: usize) -> Result<Body, AllocError> {
 }
 
 // Calls of B on object 2 with their answers.
-const CALLS: [&str; 7] = [
+const CALLS: &[&str] = &[
     "ok B 2 get = 00ff",
     "ok B 2 add 1 = over",
     "ok B 2 pop = none",
@@ -385,7 +393,7 @@ fn is_said(alloc: Global, line: Line, text: &[u8]) -> Result<bool, AllocError> {
     Ok(event == 20 && again.as_slice() == text)
 }
 
-const NOT_LINES: [&str; 42] = [
+const NOT_LINES: &[&str] = &[
     "",
     "\n",
     "20\n",
@@ -473,19 +481,29 @@ fn labels_limit() -> Line
     }
 }
 
+// Whether there is one line, with this text.
+fn is_one_line(alloc: Global, lines: &[Line], want: &[u8]) -> Result<bool, AllocError> {
+    match lines {
+        [line] => Ok(line_text(alloc, line)?.as_slice() == want),
+        _ => Ok(false),
+    }
+}
+
+// Whether the step of such a stepper tells the limit.
+fn limit_is_told(alloc: Global) -> Result<bool, AllocError> {
+    let mut stepper = Full {
+        journal: Lines::new(alloc),
+    };
+    let mut out = Lines::new(alloc);
+    if !is_full(&mut stepper, &mut out) {
+        return Ok(false);
+    }
+    is_one_line(alloc, out.as_slice(), b"3 limit labels\n")
+}
+
 #[test]
 fn a_step_tells_the_limit(rt: HostRuntime) -> Result<(), Fail> {
-    let mut stepper = Full {
-        journal: Lines::new(rt.alloc()),
-    };
-    let mut out = Lines::new(rt.alloc());
-    assert!(rt; is_full(&mut stepper, &mut out));
-    let [line] = out.as_slice() else {
-        assert!(rt; false, "one line");
-        return Ok(());
-    };
-    let text = line_text(rt.alloc(), line)?;
-    assert!(rt; text.as_slice() == b"3 limit labels\n".as_slice());
+    assert!(rt; limit_is_told(rt.alloc())?);
     Ok(())
 }
 

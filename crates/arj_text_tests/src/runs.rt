@@ -10,8 +10,6 @@ use arj_journal::{Header, Line, line_text, put_event, put_nodes, put_object};
 use arj_journal_reader::read_line;
 use arj_script::{Item, Reader, ScriptFault};
 use std::alloc::{AllocError, Global};
-use std::process::Abort;
-use std::str;
 use std::test::Fail;
 
 // All runs, in texts, and how many each text holds. A run begins with a line `== ` and its name. The lines of its
@@ -59,31 +57,47 @@ fn put_wanted(wanted: &mut Bytes, line: &str) -> Result<(), AllocError> {
     wanted.extend(b"\n")
 }
 
-// Reads the lines of a script. What is printed each time is the lines that came since the time before.
-fn see_script(
-    rt: &impl Abort,
+// What the reader makes of a line, printed. None: it refuses the line.
+fn line_read(alloc: Global, reader: &mut Reader, line: &str) -> Result<Option<Bytes>, AllocError> {
+    match reader.line(line.as_bytes()) {
+        Ok(item) => Ok(Some(printed(alloc, item)?)),
+        Err(_) => Ok(None),
+    }
+}
+
+// Whether what is printed is all that is wanted so far, or nothing. What was printed isn't wanted any more.
+fn is_wanted(alloc: Global, text: &[u8], wanted: &mut Bytes) -> bool {
+    if text.is_empty() {
+        return true;
+    }
+    let same = text == wanted.as_slice();
+    *wanted = Bytes::new(alloc);
+    same
+}
+
+// Whether the line is read, and what is printed then is wanted.
+fn line_is_wanted(
     alloc: Global,
     reader: &mut Reader,
-    script: &str,
-) -> Result<(), Fail> {
+    line: &str,
+    wanted: &mut Bytes,
+) -> Result<bool, AllocError> {
+    put_wanted(wanted, line)?;
+    match line_read(alloc, reader, line)? {
+        Some(text) => Ok(is_wanted(alloc, text.as_slice(), wanted)),
+        None => Ok(false),
+    }
+}
+
+// Whether the lines of a script are read, and printed as they are.
+fn script_is_right(alloc: Global, reader: &mut Reader, script: &str) -> Result<bool, AllocError> {
     let mut wanted = Bytes::new(alloc);
     for line in script.lines() {
-        put_wanted(&mut wanted, line)?;
-        let item = match reader.line(line.as_bytes()) {
-            Ok(item) => item,
-            Err(fault) => return Err(Fail::new(format_args!("{fault}: {line}"))),
-        };
-        let text = printed(alloc, item)?;
-        if !text.as_slice().is_empty() {
-            assert_eq!(rt;
-                str::from_utf8(text.as_slice())?,
-                str::from_utf8(wanted.as_slice())?
-            );
-            wanted = Bytes::new(alloc);
+        if !line_is_wanted(alloc, reader, line, &mut wanted)? {
+            return Ok(false);
         }
     }
-    assert!(rt; wanted.as_slice().is_empty(), "not printed");
-    Ok(())
+    Ok(wanted.as_slice().is_empty())
 }
 
 // A line of a journal, printed and let go.
@@ -91,31 +105,47 @@ fn line_printed(alloc: Global, line: Line) -> Result<Bytes, AllocError> {
     line_text(alloc, &line)
 }
 
-// Reads and prints the lines of a journal.
-fn see_journal(rt: &impl Abort, alloc: Global, journal: &str) -> Result<(), Fail> {
-    for line in journal.split_inclusive('\n') {
-        let read = match read_line(alloc, line.as_bytes()) {
-            Ok(read) => read,
-            Err(fault) => return Err(Fail::new(format_args!("{fault}: {line}"))),
-        };
-        let text = line_printed(alloc, read)?;
-        assert_eq!(rt; str::from_utf8(text.as_slice())?, line);
+// Whether a line of a journal is read, and printed as it is.
+fn line_is_right(alloc: Global, line: &str) -> Result<bool, AllocError> {
+    match read_line(alloc, line.as_bytes()) {
+        Ok(read) => Ok(line_printed(alloc, read)?.as_slice() == line.as_bytes()),
+        Err(_) => Ok(false),
     }
-    Ok(())
 }
 
-// Sees the runs of a text, and tells how many they are.
-fn see_runs(rt: &impl Abort, alloc: Global, text: &str) -> Result<usize, Fail> {
+fn journal_is_right(alloc: Global, journal: &str) -> Result<bool, AllocError> {
+    for line in journal.split_inclusive('\n') {
+        if !line_is_right(alloc, line)? {
+            return Ok(false);
+        }
+    }
+    Ok(true)
+}
+
+// Whether a new reader reads the script, and the journal is right too.
+fn run_is_right(alloc: Global, script: &str, journal: &str) -> Result<bool, AllocError> {
+    let mut reader = Reader::new(alloc);
+    if !script_is_right(alloc, &mut reader, script)? {
+        return Ok(false);
+    }
+    journal_is_right(alloc, journal)
+}
+
+// The script and the journal of a run, behind its name.
+fn parts(run: &str) -> Option<(&str, &str)> {
+    let (_name, lines) = run.split_once('\n')?;
+    lines.split_once("-- journal\n")
+}
+
+// How many runs of a text are right.
+fn runs_right(alloc: Global, text: &str) -> Result<usize, AllocError> {
     let mut count: usize = 0;
     for run in text.split("== ") {
-        let Some((_name, run)) = run.split_once('\n') else {
-            continue;
-        };
-        let (script, journal) = run.split_once("-- journal\n").ok_or("no journal")?;
-        let mut reader = Reader::new(alloc);
-        see_script(rt, alloc, &mut reader, script)?;
-        see_journal(rt, alloc, journal)?;
-        count = count.saturating_add(1);
+        if let Some((script, journal)) = parts(run) {
+            if run_is_right(alloc, script, journal)? {
+                count = count.saturating_add(1);
+            }
+        }
     }
     Ok(count)
 }
@@ -123,7 +153,7 @@ fn see_runs(rt: &impl Abort, alloc: Global, text: &str) -> Result<usize, Fail> {
 #[test]
 fn runs_are_read_and_printed(rt: HostRuntime) -> Result<(), Fail> {
     for (text, count) in RUNS {
-        assert_eq!(rt; see_runs(&rt, rt.alloc(), text)?, count);
+        assert_eq!(rt; runs_right(rt.alloc(), text)?, count);
     }
     Ok(())
 }
@@ -151,8 +181,8 @@ run
 
 #[test]
 fn values_of_each_class_are_read_and_printed(rt: HostRuntime) -> Result<(), Fail> {
-    let alloc = rt.alloc();
-    see_script(&rt, alloc, &mut Reader::new(alloc), CLASSES)
+    assert!(rt; run_is_right(rt.alloc(), CLASSES, "")?);
+    Ok(())
 }
 
 // A script before its last line, which is longer than a line may be, and what the run writes.
@@ -173,13 +203,19 @@ const WRITTEN: &str = "\
 ";
 
 // The reader takes lines without their ends, so that it is one to it whether a line feed stands behind the long line.
-#[test]
-fn a_line_that_is_too_long_is_refused(rt: HostRuntime) -> Result<(), Fail> {
-    let alloc = rt.alloc();
+fn long_line_is_refused(alloc: Global) -> Result<bool, AllocError> {
     let mut long = [b'x'; 501];
     long[0] = b'#';
     let mut reader = Reader::new(alloc);
-    see_script(&rt, alloc, &mut reader, FRONT)?;
-    assert!(rt; matches!(reader.line(&long), Err(ScriptFault::Bad)));
-    see_journal(&rt, alloc, WRITTEN)
+    if !script_is_right(alloc, &mut reader, FRONT)? {
+        return Ok(false);
+    }
+    Ok(matches!(reader.line(&long), Err(ScriptFault::Bad)))
+}
+
+#[test]
+fn a_line_that_is_too_long_is_refused(rt: HostRuntime) -> Result<(), Fail> {
+    assert!(rt; long_line_is_refused(rt.alloc())?);
+    assert!(rt; journal_is_right(rt.alloc(), WRITTEN)?);
+    Ok(())
 }

@@ -2,8 +2,7 @@
 ghost use Rattle.std.specs.Prelude.{IfSome};
 ghost use Rattle.arj_journal.specs.ScriptForm.{HeaderInForm};
 
-use arj_base::Bytes;
-use arj_class::Value;
+use arj_base::{Bytes, Class};
 use arj_journal::{Header, ObjectLine};
 use arj_script::{Item, Reader, ScriptFault};
 use std::alloc::{AllocError, Global};
@@ -199,14 +198,20 @@ fn parts(row: &str) -> Option<(usize, &str, &str)> {
     Some((count, line, want))
 }
 
+// Whether the reader tells of a line at its place what the row says.
+fn is_told(alloc: Global, row: &str) -> bool {
+    let Some((count, line, want)) = parts(row) else {
+        return false;
+    };
+    let mut reader = reader_behind(alloc, count);
+    told(reader.line(line.as_bytes())) == want
+}
+
 #[test]
-fn lines_at_their_places(rt: HostRuntime) -> Result<(), Fail> {
+fn lines_at_their_places(rt: HostRuntime) {
     for row in LINES.lines() {
-        let (count, line, want) = parts(row).ok_or("no row")?;
-        let mut reader = reader_behind(rt.alloc(), count);
-        assert_eq!(rt; told(reader.line(line.as_bytes())), want, "{row}");
+        assert!(rt; is_told(rt.alloc(), row), "{row}");
     }
-    Ok(())
 }
 
 // An object with so many bytes in its register.
@@ -228,46 +233,86 @@ fn told_behind(alloc: Global, line: &[u8], count: usize) -> Result<&'static str,
     Ok(told(reader.line(object.as_slice())))
 }
 
+// A line behind `nodes`, how many bytes the register has, and what is told of it.
+const REGISTERS: &[(&str, usize, &str)] = &[
+    ("format 1", 64, "part"),
+    ("format 1", 65, "bad"),
+    ("", 65, "part"),
+    ("", 192, "part"),
+    ("", 193, "bad"),
+];
+
 #[test]
 fn registers_are_as_long_as_the_format_holds(rt: HostRuntime) -> Result<(), Fail> {
-    for (line, count, want) in [
-        ("format 1", 64usize, "part"),
-        ("format 1", 65, "bad"),
-        ("", 65, "part"),
-        ("", 192, "part"),
-        ("", 193, "bad"),
-    ] {
-        let found = told_behind(rt.alloc(), line.as_bytes(), count)?;
-        assert_eq!(rt; found, want, "{line} {count}");
+    for (line, count, want) in REGISTERS {
+        assert!(rt; told_behind(rt.alloc(), line.as_bytes(), *count)? == *want);
     }
     Ok(())
 }
 
-#[test]
-fn a_line_has_at_most_500_bytes(rt: HostRuntime) -> Result<(), Fail> {
+// What is told of a comment that has so many bytes.
+fn comment_told(alloc: Global, count: usize) -> &'static str {
     let comment = [b'#'; 501];
-    let mut reader = reader_behind(rt.alloc(), 0);
-    assert_eq!(rt; told(reader.line(&comment[..500])), "blank");
-    assert_eq!(rt; told(reader.line(&comment)), "bad");
-    Ok(())
+    told(reader_behind(alloc, 0).line(&comment[..count.min(501)]))
 }
 
-// Whether the object has this number and these nodes, and its value this payload.
-fn is_object(
-    alloc: Global,
-    object: &ObjectLine,
-    x: u16,
-    nodes: (&[u8], &[u8]),
-    payload: &[u8],
-) -> Result<bool, Fail> {
-    let saved = object.value.save_state(alloc)?;
-    let (servers, stores) = nodes;
-    Ok(
-        object.x == x
-            && object.servers.as_slice() == servers
-            && object.stores.as_slice() == stores
-            && saved.as_slice() == payload,
-    )
+#[test]
+fn a_line_has_at_most_500_bytes(rt: HostRuntime) {
+    assert!(rt; comment_told(rt.alloc(), 500) == "blank");
+    assert!(rt; comment_told(rt.alloc(), 501) == "bad");
+}
+
+// An object's number, its servers and stores, its value's class and payload.
+type Row = (u16, &'static [u8], &'static [u8], Class, &'static [u8]);
+
+// Objects that come behind object 3, not in their order.
+const COMING: &[&str] = &[
+    "object 9 account 258 servers 4,1 stores 2,3,1",
+    "object 4 table 1:2 servers 1 stores 1",
+    "object 2 queue 5 servers 2 stores 4",
+    "object 7 register 00ff servers 3 stores 3",
+];
+
+const OBJECTS: &[Row] = &[
+    (2, &[2], &[4], Class::Queue, &[0, 0, 0, 0, 0, 0, 0, 5]),
+    (3, &[1], &[1], Class::Counter, &[0; 8]),
+    (
+        4,
+        &[1],
+        &[1],
+        Class::Table,
+        &[0, 0, 0, 0, 0, 0, 0, 1, 0, 0, 0, 0, 0, 0, 0, 2],
+    ),
+    (7, &[3], &[3], Class::Register, &[0, 255]),
+    (
+        9,
+        &[4, 1],
+        &[2, 3, 1],
+        Class::Account,
+        &[0, 0, 0, 0, 0, 0, 1, 2],
+    ),
+];
+
+// Whether the object has this number and these nodes.
+fn has_nodes(object: &ObjectLine, row: &Row) -> bool {
+    object.x == row.0 && object.servers.as_slice() == row.1 && object.stores.as_slice() == row.2
+}
+
+// Whether its value has this class and this payload too.
+fn is_object(alloc: Global, object: &ObjectLine, row: &Row) -> Result<bool, AllocError> {
+    if !has_nodes(object, row) || object.value.class() != row.3 {
+        return Ok(false);
+    }
+    Ok(object.value.save_state(alloc)?.as_slice() == row.4)
+}
+
+fn are_objects(alloc: Global, objects: &[ObjectLine]) -> Result<bool, AllocError> {
+    for (object, row) in objects.iter().zip(OBJECTS) {
+        if !is_object(alloc, object, row)? {
+            return Ok(false);
+        }
+    }
+    Ok(objects.len() == OBJECTS.len())
 }
 
 // The header that the line `run` ends, which is in form.
@@ -280,40 +325,26 @@ fn header_at(reader: &mut Reader) -> Option<Header>
     }
 }
 
+// The header that has all these objects.
+fn header_of_all(alloc: Global) -> Option<Header>
+    ensures { IfSome result HeaderInForm }
+{
+    let mut reader = reader_behind(alloc, 2);
+    for line in COMING {
+        told(reader.line(line.as_bytes()));
+    }
+    header_at(&mut reader)
+}
+
+fn header_is_right(alloc: Global) -> Result<bool, AllocError> {
+    match header_of_all(alloc) {
+        Some(header) => Ok(header.nodes == 4 && are_objects(alloc, header.objects.as_slice())?),
+        None => Ok(false),
+    }
+}
+
 #[test]
 fn a_header_has_its_objects_in_order(rt: HostRuntime) -> Result<(), Fail> {
-    let mut reader = reader_behind(rt.alloc(), 2);
-    told(reader.line(b"object 9 account 258 servers 4,1 stores 2,3,1"));
-    told(reader.line(b"object 4 table 1:2 servers 1 stores 1"));
-    told(reader.line(b"object 2 queue 5 servers 2 stores 4"));
-    told(reader.line(b"object 7 register 00ff servers 3 stores 3"));
-    let header = header_at(&mut reader).ok_or("no header")?;
-    assert_eq!(rt; header.nodes, 4);
-    let [second, third, fourth, seventh, ninth] = header.objects.as_slice() else {
-        return Err(Fail::from("not five objects"));
-    };
-    let alloc = rt.alloc();
-    assert!(rt; is_object(alloc, second, 2, (&[2], &[4]), &[0, 0, 0, 0, 0, 0, 0, 5])?);
-    assert!(rt; is_object(alloc, third, 3, (&[1], &[1]), &[0; 8])?);
-    assert!(rt;
-        is_object(
-            alloc,
-            fourth,
-            4,
-            (&[1], &[1]),
-            &[0, 0, 0, 0, 0, 0, 0, 1, 0, 0, 0, 0, 0, 0, 0, 2]
-        )?
-    );
-    assert!(rt; is_object(alloc, seventh, 7, (&[3], &[3]), &[0, 255])?);
-    assert!(rt;
-        is_object(
-            alloc,
-            ninth,
-            9,
-            (&[4, 1], &[2, 3, 1]),
-            &[0, 0, 0, 0, 0, 0, 1, 2]
-        )?
-    );
-    assert!(rt; matches!(&ninth.value, Value::Account(_)));
+    assert!(rt; header_is_right(rt.alloc())?);
     Ok(())
 }

@@ -18,7 +18,7 @@ use std::collections::BTreeMap;
 use std::test::Fail;
 
 // Each with the word for its reader before it.
-const WORDS: [&str; 32] = [
+const WORDS: &[&str] = &[
     "label A",
     "label Abcdefghij012345",
     "label_first A 2",
@@ -53,7 +53,7 @@ const WORDS: [&str; 32] = [
     "operation destroy",
 ];
 
-const NOT_WORDS: [&str; 41] = [
+const NOT_WORDS: &[&str] = &[
     "label ",
     "label 1A",
     "label A-",
@@ -97,23 +97,40 @@ const NOT_WORDS: [&str; 41] = [
     "operation destroy 1",
 ];
 
+// Whether all of these are read, or none.
+fn are_read(alloc: Global, texts: &[&str], want: bool) -> Result<bool, AllocError> {
+    for text in texts {
+        if is_read(alloc, text.as_bytes())? != want {
+            return Ok(false);
+        }
+    }
+    Ok(true)
+}
+
+fn have_values(alloc: Global) -> Result<bool, AllocError> {
+    for place in 0..5usize {
+        if !has_value(alloc, place)? {
+            return Ok(false);
+        }
+    }
+    Ok(true)
+}
+
+fn calls_are_right(alloc: Global) -> Result<bool, AllocError> {
+    for (place, (asked, want)) in CALLS.iter().enumerate() {
+        if !call_is_right(alloc, place, asked, want)? {
+            return Ok(false);
+        }
+    }
+    Ok(true)
+}
+
 #[test]
 fn words_are_read(rt: HostRuntime) -> Result<(), Fail> {
-    for text in WORDS {
-        assert!(rt; is_read(rt.alloc(), text.as_bytes())?, "{text}");
-    }
-    for text in NOT_WORDS {
-        assert!(rt; !is_read(rt.alloc(), text.as_bytes())?, "{text}");
-    }
-    for place in 0..5usize {
-        assert!(rt; has_value(rt.alloc(), place)?, "word {place}");
-    }
-    for (place, (asked, want)) in CALLS.iter().enumerate() {
-        assert!(rt;
-            call_is_right(rt.alloc(), place, asked, want)?,
-            "call {place}"
-        );
-    }
+    assert!(rt; are_read(rt.alloc(), WORDS, true)?);
+    assert!(rt; are_read(rt.alloc(), NOT_WORDS, false)?);
+    assert!(rt; have_values(rt.alloc())?);
+    assert!(rt; calls_are_right(rt.alloc())?);
     Ok(())
 }
 
@@ -200,7 +217,7 @@ fn has_nodes(alloc: Global, text: &str, want: &[u8]) -> Result<bool, AllocError>
 }
 
 // Operations with their answers, as texts.
-const CALLS: [(&str, &str); 17] = [
+const CALLS: &[(&str, &str)] = &[
     ("get", "12"),
     ("get", "00ff"),
     ("get", "-"),
@@ -316,13 +333,28 @@ fn put_place(places: &mut BTreeMap<Label, usize>, label: Label, place: usize) ->
     Ok(())
 }
 
+// Puts three places, two of them at one label.
+fn put_places(places: &mut BTreeMap<Label, usize>) -> Result<(), Fail> {
+    put_place(places, Label::new(b"A"), 1)?;
+    put_place(places, Label::new(b"B"), 2)?;
+    put_place(places, Label::new(b"A"), 3)
+}
+
+fn place_at(places: &BTreeMap<Label, usize>, label: Label) -> Option<usize> {
+    places.get(&label).copied()
+}
+
+fn last_place_stands(alloc: Global) -> Result<bool, Fail> {
+    let mut places = BTreeMap::new(alloc);
+    put_places(&mut places)?;
+    Ok(
+        place_at(&places, Label::new(b"A")) == Some(3)
+            && place_at(&places, Label::new(b"AB")).is_none(),
+    )
+}
+
 #[test]
 fn labels_are_keys(rt: HostRuntime) -> Result<(), Fail> {
-    let mut places = BTreeMap::new(rt.alloc());
-    put_place(&mut places, Label::new(b"A"), 1)?;
-    put_place(&mut places, Label::new(b"B"), 2)?;
-    put_place(&mut places, Label::new(b"A"), 3)?;
-    assert_eq!(rt; places.get(&Label::new(b"A")).copied(), Some(3));
-    assert_eq!(rt; places.get(&Label::new(b"AB")).copied(), None);
+    assert!(rt; last_place_stands(rt.alloc())?);
     Ok(())
 }
