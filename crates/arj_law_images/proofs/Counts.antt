@@ -5,7 +5,6 @@ use Words.{arith, AllByRecursion, and_parts, eqb-true, Body, Event, Header, Line
 use Words.{world_by, world_from, most_events, most_frames, append-nil, append_assoc}
 use Words.body
 use Rattle.arj_law_runs.proofs.Terms.{Run}
-use Rattle.arj_journal.specs.ScriptForm.{HeaderInForm}
 use Rattle.arj_law_parts.proofs.Terms.which
 use Rattle.arj_law_runs.proofs.follow.{Along.Ended, Along.Outcome, Along.Went, Along.event_of, Along.over_stays}
 use Rattle.arj_law_runs.proofs.follow.Frames as frames
@@ -16,7 +15,7 @@ use Rattle.arj_model.specs.CauseNodes.{delivers, loses}
 use Rattle.arj_model.specs.Follows.{AreEnding, Runs, is_ending}
 use Rattle.arj_model.specs.Past.{Along, Past, at_start, block, next}
 use Rattle.arj_model.specs.Refusals.{frame_from, frame_step, has_frame, last_frame}
-use Rattle.arj_promise.specs.Runs.{IsStoppedInForm}
+use Rattle.arj_promise.specs.Runs.{HeaderFits, IsStoppedInForm}
 use Rattle.arj_protocol.specs.Words.{FrameKind}
 use Rattle.arj_rest.specs.Nodes.{frame_of}
 use Rattle.arj_law_runs.proofs.follow.Telling.{has_is as frame_has}
@@ -263,7 +262,7 @@ frames_fit hd r form = by (frames.frames_are_caused hd r form)
 abbrev AreFew : ℕ → World → Type 0
 AreFew n w = (last_frame w.lines ≤ most_frames) × (w.event ≤ n)
 
-module _ (hd : Header) (form : HeaderInForm hd) where
+module _ (hd : Header) (form : HeaderFits hd) where
   few_from : (ms : List Move) (p : Past) (w : World) → AllByRecursion IsStoppedInForm ms → frames.Stands hd form p w →
       AreFew (w.event + length ms) (all_moved ms w)
   few_from [] p w stops s = (

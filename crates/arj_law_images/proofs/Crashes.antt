@@ -8,7 +8,6 @@ use Words.{is_node, is_up, journal_by, IsInForm}
 use Words.body
 use Words.event
 use Words.input
-use Rattle.arj_journal.specs.ScriptForm.{HeaderInForm}
 use Rattle.arj_law_parts.proofs.Terms.which
 use Rattle.arj_law_parts.proofs.moves.{Moving.more_moves, Places.place_same}
 use Rattle.arj_law_parts.specs.moves.Keeps.{Holds}
@@ -21,7 +20,7 @@ use Rattle.arj_law_runs.specs.addresses.Addresses.{AreAddressed, IsNode}
 use Rattle.arj_law_runs.specs.follow.Frames.{FramesStep}
 use Rattle.arj_model.specs.{Last.is_among, Past.Past, Past.at_start, Past.next, Refusals.is_down}
 use Rattle.arj_model.specs.Refusals as refusals
-use Rattle.arj_promise.specs.Runs.{IsStoppedInForm, from_format}
+use Rattle.arj_promise.specs.Runs.{HeaderFits, IsStoppedInForm, from_format}
 use Rattle.arj_protocol.specs.World.{says}
 use Rattle.arj_start.specs.Start.{Start, fresh}
 use Rattle.arj_law_images.specs.{Images.AreDown, Laws.CrashesStopAll, Laws.JournalsTellWhoIsDown}
@@ -163,7 +162,7 @@ was_on ms w on = by w.over refl
 
 -- ---- crashes one after another
 
-module _ (hd : Header) (form : HeaderInForm hd) where
+module _ (hd : Header) (form : HeaderFits hd) where
   crash_stops : (m : Move) (k : ℕ) (w : World) → event_of m ≡ event.Crash k → w.over ≡ false → Holds hd (AreAddressed hd) w →
       Down k (let v = moved m w in v.nodes)
   crash_stops m k w is on h = by (at_place k w.nodes) refl

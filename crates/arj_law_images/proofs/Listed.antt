@@ -1,9 +1,11 @@
 -- The journal lists a store for each object, and none twice: the entry that will stand at the naming node is that of the journal.
 use Rattle.arj_law_parts.proofs.Words
-use Words.{◌≡◌, ◌∙◌, ◌==◌, ◌&&◌, ℕ, Bool, true, false, cond, not, List, [], ◌∷◌, refl, subst, ap, inl, inr, AllByRecursion, Option, Some, None}
+use Words.{◌≡◌, ◌∙◌, ◌==◌, ◌&&◌, ℕ, Bool, true, false, cond, not, List, [], ◌∷◌, refl, subst, ap, inl, inr, AllByRecursion, Option, Some}
+use Words.{None}
 use Words.{is_some, In, in_find_none, entry, Header, Node, ObjectLine, ObjectState, World, at_place, same_number}
 use Rattle.arj_law_serial.proofs.Terms
-use Terms.{HeaderInForm, Keeping, object_line, servers_of_line, marked, SeesEntry, Among, Packed, Hold, has, decided, last_entry, packed_entry}
+use Terms.{HeaderFits, Keeping, object_line, servers_of_line, marked, SeesEntry, Among, Packed, Hold, has, decided, last_entry}
+use Terms.{packed_entry}
 use Terms.{Own, never, AreDecided, Core, all_at_uid, first_stores}
 use Terms.disk
 use Rattle.arj_law_cause.proofs.spelled.{Names.Apart, Names.Names, Names.NamesSo, Names.names_keep, Onces.Once}
@@ -49,7 +51,7 @@ line_found hd o i = by (object_line hd o.x) refl
 
 -- ---- worlds
 
-module _ (hd : Header) (w : World) (keeping : Keeping hd w) (form : HeaderInForm hd) (joined : AreJoined hd w) (n : Node)
+module _ (hd : Header) (w : World) (keeping : Keeping hd w) (form : HeaderFits hd) (joined : AreJoined hd w) (n : Node)
     (there : at_place 1 w.nodes ≡ Some n) where
   names : Names n.disk
   names =

@@ -1,10 +1,12 @@
 -- What stores hold of an object is what it was behind the committed tops up to some place in serial order.
 use Rattle.arj_law_parts.proofs.Words
 use Words.{◌≡◌, ◌∙◌, ◌⊎◌, ◌<◌, ◌+◌, ◌&&◌, ℕ, Bool, true, false, cond, filter, List, [], ◌∷◌, refl, sym, subst, ap, inl, inr, ⊎_elim, arith}
-use Words.{Option, Some, None, is_some, unwrap_or, AllByRecursion, In, in_from, Header, ObjectState, Uid, object, Node, World, see, uid_number}
+use Words.{Option, Some, None, is_some, unwrap_or, AllByRecursion, In, in_from, Header, ObjectState, Uid, object, Node, World, see}
+use Words.{uid_number}
 use Words.{nobody, state_bytes, Line, Start}
 use Rattle.arj_law_serial.proofs.Terms
-use Terms.{HeaderInForm, Top, tops, committed_calls, first_values, run, serial_calls, writes_on, new_book, AreRight, Chain, Core, counts_of, Done}
+use Terms.{HeaderFits, Top, tops, committed_calls, first_values, run, serial_calls, writes_on, new_book, AreRight, Chain, Core, counts_of}
+use Terms.{Done}
 use Terms.{KnownIn, Packed, last_in, packed, AreDecided, AreDecisions, AreNewestFirst, content_of, marked, Keeping, object_line, kept_right}
 use Terms.words
 use Terms.disk
@@ -82,7 +84,7 @@ first_is header lines x = λ i. by (none_to lines (serial_calls lines) i)
 
 -- ---- worlds
 
-module _ (hd : Header) (w : World) (keeping : Keeping hd w) (form : HeaderInForm hd) (joined : AreJoined hd w) (begins : w.start ≡ fresh)
+module _ (hd : Header) (w : World) (keeping : Keeping hd w) (form : HeaderFits hd) (joined : AreJoined hd w) (begins : w.start ≡ fresh)
     (x : ℕ) (there : is_some (object_line hd x) ≡ true) where
   abbrev o : Holds hd (IsOrderedSo hd x) w
   o = ordered_of hd w x (held_in hd w keeping joined x there)

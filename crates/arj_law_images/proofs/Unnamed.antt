@@ -1,12 +1,14 @@
 -- What disks hold is of the header's objects: of any other object each state would be of every class, and each entry have all servers.
 use Rattle.arj_law_parts.proofs.Words
-use Words.{◌||◌, ◌≡◌, ◌∙◌, ◌+◌, ◌==◌, ℕ, Bool, true, false, cond, filter, List, [], ◌∷◌, map, refl, sym, subst, ap, inl, inr, ⊎_elim, Option, Some}
-use Words.{None, if◌then◌else◌, AllByRecursion, entry, object, In, in_from, Header, ObjectLine, ObjectState, Uid, Class, again_all, begin_action}
+use Words.{◌||◌, ◌≡◌, ◌∙◌, ◌+◌, ◌==◌, ℕ, Bool, true, false, cond, filter, List, [], ◌∷◌, map, refl, sym, subst, ap, inl, inr, ⊎_elim}
+use Words.{Option, Some}
+use Words.{None, if◌then◌else◌, AllByRecursion, entry, object, In, in_from, Header, ObjectLine, ObjectState, Uid, Class, again_all}
+use Words.{begin_action}
 use Words.{Coord, Disk, Do, Effect, Say, Send, stopped, worked, tick_outs, Parts, with_coord, has, Node, acts, parent_of, parts_in}
 use Words.{restart_outs, World, list_any, uid_same, same_number, Post, Seen, is_serial, Start, node_by, IsFormed}
 use Words.class
 use Rattle.arj_law_serial.proofs.Terms
-use Terms.{IsOlder, Marks, all_append, all_at_uid, all_each, disk_by, entries_from, entry_by, older_at, state_by, states_from, HeaderInForm}
+use Terms.{IsOlder, Marks, all_append, all_at_uid, all_each, disk_by, entries_from, entry_by, older_at, state_by, states_from, HeaderFits}
 use Terms.{Keeps, In as Posted, at, given, posted, said, Up, Walks, Keeping, kept_holds, first_at, CoordIsSo, MessageIsSo, Own}
 use Terms.{acts_so, begins_so, AllAreSo, AreSo, DiskIsSo, Kind, PartsAreSo, kind_of, listed, so_of, stored, never}
 use Rattle.arj_base.specs.State.{is_object_class}
@@ -191,7 +193,8 @@ none_named (p ∷ ps) test off o i = by (test p) refl off i (none_named ps test)
     by false is none (inl same) later = ap test (sym same) ∙ is
     by false is none (inr more) later = later none o more
 
-module _ (hd : Header) (form : HeaderInForm hd) (w : World) (keeping : Keeping hd w) (s : ℕ) (n : Node) (there : at_place s w.nodes ≡ Some n) where
+module _ (hd : Header) (form : HeaderFits hd) (w : World) (keeping : Keeping hd w) (s : ℕ) (n : Node)
+    (there : at_place s w.nodes ≡ Some n) where
   -- the disk has the form that any kind has of an object which the header hasn't
   so : (y : ℕ) (c : Class) (servers : List ℕ) → is_object_class c ≡ true → ((o : ObjectLine) → In o hd.objects → o.x ≡ y → ⊥) →
       DiskIsSo (record { x = y; class = c; servers = servers; format = hd.format }) n.disk

@@ -1,6 +1,7 @@
 -- What the proofs of this crate name of its own definitions and of the crates below, passed on from one place.
 -- Declares nothing.
-pub use Rattle.arj_journal.specs.ScriptForm.{HeaderInForm, ObjectLineInForm}
+pub use Rattle.arj_journal.specs.ScriptForm.{ObjectLineInForm}
+pub use Rattle.arj_promise.specs.Runs.{HeaderFits}
 pub use Rattle.arj_law_disk_view.proofs.running.Lists.{all_each}
 pub use Rattle.arj_law_runs.proofs.kept.Starts.{first_at, first_up, live_first}
 pub use Rattle.arj_law_disk_view.proofs.view.Frames.{node_here}

@@ -1,10 +1,9 @@
 // To whom frames go.
 ghost use Rattle.std.specs.Prelude.{◌≡◌, ◌&&◌, ℕ, Bool, true, nat_le};
 ghost use Rattle.std.specs.List.{AllByRecursion};
-ghost use Rattle.arj_journal.specs.ScriptForm.{HeaderInForm};
 ghost use Rattle.arj_journal.specs.declared.header.Header.{Header};
 ghost use Rattle.arj_law_parts.specs.moves.Keeps.{Holds};
-ghost use Rattle.arj_promise.specs.Runs.{Run, world_by};
+ghost use Rattle.arj_promise.specs.Runs.{HeaderFits, Run, world_by};
 ghost use Rattle.arj_law_runs.specs.addresses.Addresses.{AreSo, GoWithin, LineOf};
 
 /// In every run, wherever disks stop, what holds of 1, of each node of the header, and of the servers and stores of its objects,
@@ -13,5 +12,5 @@ ghost use Rattle.arj_law_runs.specs.addresses.Addresses.{AreSo, GoWithin, LineOf
 /// header: to a number that's at least 1 and at most the header's number of nodes. It does nothing when it runs.
 pub fn frames_go_within()
     ensures named { (hd : Header) (test : ℕ → Bool) → test 1 ≡ true → ((s : ℕ) → (nat_le 1 s && nat_le s hd.nodes) ≡ true → test s ≡ true) → AllByRecursion (LineOf (λ n. test n ≡ true)) hd.objects → (r : Run hd) → Holds hd (AreSo (λ n. test n ≡ true)) (world_by hd r) }
-    ensures runs { (hd : Header) → HeaderInForm hd → (r : Run hd) → GoWithin hd.nodes (world_by hd r) }
+    ensures runs { (hd : Header) → HeaderFits hd → (r : Run hd) → GoWithin hd.nodes (world_by hd r) }
 {}

@@ -1,7 +1,7 @@
 -- What the proofs of this crate name of its own definitions and of the crates below, passed on from one place.
 -- Declares nothing.
 pub use Rattle.arj_disk.specs.declared.slot.Role.{Role}
-pub use Rattle.arj_journal.specs.ScriptForm.{HeaderInForm}
+pub use Rattle.arj_promise.specs.Runs.{HeaderFits}
 pub use Rattle.arj_journal.specs.declared.limits.TheConstants.{STORES}
 pub use Rattle.arj_law.proofs.Common.{Pairwise, not_below_itself, read_rises}
 pub use Rattle.arj_law.proofs.Last.{writes_conflict}

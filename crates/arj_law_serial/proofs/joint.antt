@@ -123,6 +123,7 @@ pub mod GivenWriters
 pub mod GivenValue
 pub mod GivenFirst
 pub mod GivenForms
+pub mod GivenBytes
 pub mod GivenLast
 pub mod Fits
 pub mod FitCoords

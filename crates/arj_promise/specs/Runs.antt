@@ -1,16 +1,20 @@
 -- What a run of the protocol is: moves, events with the stops that fall in each; when it is in form; and what is seen of a world.
-use Rattle.std.specs.Prelude.{List, Option, [], length, ℕ, ◌++◌, ◌∷◌, ◌≤◌}
+use Rattle.std.specs.Prelude.{List, Option, [], length, ℕ, ◌++◌, ◌∷◌, ◌≡◌, ◌≤◌}
 use Rattle.std.specs.List.{AllByRecursion}
-use Rattle.arj_journal.specs.ScriptForm.{EventInForm, HeaderInForm}
+use Rattle.arj_class.specs.Forms.{FormatHolds}
+use Rattle.arj_journal.specs.ScriptForm.{EventInForm, HeaderInForm, ObjectsInForm}
 use Rattle.arj_journal.specs.declared.body.Line.{Line}
 use Rattle.arj_journal.specs.declared.header.Header.{Header}
+use Rattle.arj_journal.specs.declared.header.ObjectLine.{ObjectLine}
+use Rattle.arj_journal.specs.declared.limits.TheConstants.{NODES}
 pub use Rattle.arj_start.specs.Limits.{most_events}
-use Rattle.arj_start.specs.Start.{Start, fresh}
+use Rattle.arj_start.specs.Start.{Marks, Start, fresh}
 use Rattle.arj_msg.specs.declared.message.Message.{Message}
 use Rattle.arj_promise.specs.Starts.{IsFormed, fresh_is_formed}
 use Rattle.arj_protocol.specs.Step.{Node}
 use Rattle.arj_protocol.specs.Tree.{at_place}
 use Rattle.arj_protocol.specs.World.{Arm, Asked, Labelled, World, format, run_event, world_from}
+use Rattle.arj_text.specs.Fields.{IsWithin}
 use Rattle.arj_text.specs.declared.label.Label.{Label}
 
 -- a message that was sent, also by a node to itself
@@ -102,10 +106,25 @@ IsStoppedInForm m = (let e = m.asked in HasWork e.arm) × AllByRecursion (λ (a 
 abbrev pub AreStopsInForm : List Move → Type 0
 AreStopsInForm ms = AllByRecursion IsStoppedInForm ms
 
--- A run is in form: its header, and each of its events, of which there are at most 1,000,000. A stop that falls in them falls at a work of
--- its node; which stops these are is nothing to it.
+-- a header of 1 to 16 nodes, and objects in form among them, with any values in form
+pub record HeaderFits (hd : Header) : Type 0 where
+  pub nodes : IsWithin 1 NODES hd.nodes
+  pub objects : ObjectsInForm hd.nodes hd.objects
+
+-- so it is of a header in form
+abbrev pub header_fits : (hd : Header) → HeaderInForm hd → HeaderFits hd
+header_fits hd form = record { nodes = form.nodes; objects = form.objects }
+
+-- states of the header's format hold the values of those of these objects that nobody has written
+abbrev pub FirstsAreHeld : Header → Marks → Type 0
+FirstsAreHeld hd marks =
+    AllByRecursion (λ (o : ObjectLine). (let m = marks.states o.x in m.version) ≡ 0 → FormatHolds hd.format o.value) hd.objects
+
+-- A run is in form: its header, with values that the states it begins with hold, and each of its events, of which there are at most
+-- 1,000,000. A stop that falls in them falls at a work of its node; which stops these are is nothing to it.
 pub record IsInForm (hd : Header) (r : Run hd) : Type 0 where
-  pub header : HeaderInForm hd
+  pub header : HeaderFits hd
+  pub held : FirstsAreHeld hd r.start.marks
   pub events : AreMovesInForm r.moves
   pub few : length r.moves ≤ most_events
   pub stops : AreStopsInForm r.moves

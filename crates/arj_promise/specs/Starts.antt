@@ -11,8 +11,9 @@ use Rattle.arj_class.specs.Table.{own_class}
 use Rattle.arj_journal.specs.declared.header.Header.{Header}
 use Rattle.arj_journal.specs.declared.header.ObjectLine.{ObjectLine}
 use Rattle.arj_msg.specs.Sendable.{StateSends}
-use Rattle.arj_start.specs.Start.{Start, fresh}
+use Rattle.arj_start.specs.Start.{Mark, Start, fresh}
 use Rattle.arj_protocol.specs.Order.{has}
+use Rattle.arj_protocol.specs.Step.{state_by}
 use Rattle.arj_protocol.specs.Values.{state_value}
 use Rattle.arj_start.specs.Limits.{last_inc, most_events, most_labels}
 use Rattle.arj_text.specs.Fields.{AreBytes}
@@ -25,7 +26,12 @@ next_inc st n = if st.up n then st.incs n + 1 else st.incs n + 2
 abbrev pub IsPast : Start → Uid → Type 0
 IsPast st u = (u ≡ nobody) ⊎ (u.inc < next_inc st u.node)
 
--- An older state, at a store: of an object of the header that isn't listed there, and from before the object's last state.
+-- a state from before the one with this mark: of a lower version, and by another writer
+pub record IsBefore (s : ObjectState) (m : Mark) : Type 0 where
+  pub below : s.version < m.version
+  pub other : s.writer ≢ m.writer
+
+-- An older state, at a store: of an object of the header that isn't listed there, and the object's last state or from before it.
 pub record IsOlder (hd : Header) (st : Start) (at : ℕ × ObjectState) : Type 0 where
   pub line : ObjectLine
   pub there : Contains hd.objects line
@@ -33,8 +39,7 @@ pub record IsOlder (hd : Header) (st : Start) (at : ℕ × ObjectState) : Type 0
   pub class : own_class (state_value at.1) ≡ own_class line.value
   pub form : StateInForm at.1
   pub unlisted : has line.stores at.0 ≡ false
-  pub below : at.1.version < (let m = st.marks.states line.x in m.version)
-  pub other : at.1.writer ≢ (let m = st.marks.states line.x in m.writer)
+  pub was : (at.1 ≡ state_by hd.format (st.marks.states line.x) line) ⊎ IsBefore at.1 (st.marks.states line.x)
   pub past : IsPast st at.1.writer
   pub bytes : AreBytes at.1.payload
   pub restores : StateSends at.1
@@ -45,7 +50,7 @@ pub record AreOne (s t : ObjectState) : Type 0 where
   pub writer : s.uid ≡ t.uid → s.writer ≡ t.writer → s ≡ t
 
 -- A start is formed: who wrote what is held has ended, and has a Uid in form; versions and incarnations leave room for those of a run; older
--- states are from before it; and of one object there is one of each version, and one of each writer.
+-- states aren't from after it; and of one object there is one of each version, and one of each writer.
 pub record IsFormed (hd : Header) (st : Start) : Type 0 where
   pub states : (x : ℕ) → IsPast st (let m = st.marks.states x in m.writer)
   pub entries : (x : ℕ) → IsPast st (let m = st.marks.entries x in m.writer)

@@ -23,7 +23,6 @@ use Words.input
 use Words.mode
 use Words.naming
 use Words.part
-use Rattle.arj_journal.specs.ScriptForm.{HeaderInForm}
 use Rattle.arj_law_parts.proofs.moves.Happens.{Wide, wide_kept}
 use Rattle.arj_law_parts.proofs.parts.LivesNamed.{keyed_found}
 use Rattle.arj_law_parts.specs.moves.Keeps.{IsAtStarts}
@@ -50,7 +49,7 @@ use Rattle.arj_model.specs.Last.{object_line, servers_of_line}
 use Rattle.arj_model.specs.Past.{Past, at_start}
 use Rattle.arj_model.specs.Refusals.{incarnation}
 use Rattle.arj_model.specs.Table.{table}
-use Rattle.arj_promise.specs.Runs.{journal_by}
+use Rattle.arj_promise.specs.Runs.{HeaderFits, journal_by}
 use Rattle.arj_protocol.specs.Named.{first_server, server_behind}
 use Rattle.arj_law_cause.proofs.bindings.Binding.{bind_shape}
 use Rattle.arj_law_cause.proofs.bindings.Counted.{IsCounted, KnowsNames, is_free, is_unbound, message_free, names_keep, restart_unbound}
@@ -189,7 +188,7 @@ module _ (o : Uid) where
 abbrev pub Extra : Header → Moment → Type 0
 Extra hd M = Wide KnowsNames M × (Wide (Each (λ x. AreSo (kind_of hd x))) M × Wide (AreAddressed hd) M)
 
-pub extra_keep : (hd : Header) → HeaderInForm hd → KeepsAll hd (Extra hd)
+pub extra_keep : (hd : Header) → HeaderFits hd → KeepsAll hd (Extra hd)
 extra_keep hd form =
     let forms = Each (λ x. AreSo (kind_of hd x)) in
     let w = wide_kept hd (IsAtStarts hd (AreAddressed hd)) (AreAddressed hd) (kept hd form) in

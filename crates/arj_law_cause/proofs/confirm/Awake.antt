@@ -9,7 +9,7 @@ use Words.{again_all, tick_outs, restart_outs, parts_in, node_by, see, world_fro
 use Words.{Coord}
 use Words.{Did}
 use Words.body
-use Rattle.arj_journal.specs.ScriptForm.{HeaderInForm}
+use Rattle.arj_promise.specs.Runs.{HeaderFits}
 use Rattle.arj_law_parts.proofs.Terms.{halted}
 use Rattle.arj_law_parts.proofs.moves.{Firsts.first_stands, Happens.keeps_asked}
 use Rattle.arj_law_parts.specs.moves.Keeps.{MayGive, label_at}
@@ -321,7 +321,7 @@ own_way e k (Send to m ∷ es) v d M N first way =
 
 -- ---- whatever is reached
 
-module _ (hd : Header) (form : HeaderInForm hd) where
+module _ (hd : Header) (form : HeaderFits hd) where
   next : (M : Seen) → Reached hd M → KnowsNext M
   next M r = reached_has hd KnowsNext (keeps_asked hd KnowsNext (next_keep hd)) M r
 

@@ -20,7 +20,7 @@ use Rattle.arj_law_parts.specs.parts.Requests.{IsNumbered}
 use Rattle.arj_law_runs.proofs.follow.Halts.{KnowsAll, halts_keep}
 use Rattle.arj_law_runs.specs.journal.Book.{new_book}
 use Rattle.arj_law_runs.specs.journal.Right.{AreRight}
-use Rattle.arj_journal.specs.ScriptForm.{HeaderInForm}
+use Rattle.arj_promise.specs.Runs.{HeaderFits}
 use Rattle.arj_law_disk_view.proofs.Terms.{or_left, or_right}
 use Rattle.arj_law_lock_view.specs.facts.Entries.{HasObject}
 use Rattle.arj_law_serial.proofs.Terms.{acts, any_in, its_sound, one_act, path}
@@ -67,7 +67,7 @@ all_at Q a [] every i = absurd i
 all_at {A} Q a (y ∷ ys) every (inl same) = subst Q same every.0
 all_at Q a (y ∷ ys) every (inr i) = all_at Q a ys every.1 i
 
-module _ (hd : Header) (st : Start) (form : HeaderInForm hd) (before : List Line) (event : ℕ) (k : ℕ) (d : Disk) (t : Parts) (M : Moment)
+module _ (hd : Header) (st : Start) (form : HeaderFits hd) (before : List Line) (event : ℕ) (k : ℕ) (d : Disk) (t : Parts) (M : Moment)
     (shown : ShowsFrom hd st before event (up k d t M)) (made : AnswersAreMade (confirms_so hd st) (up k d t M)) (from : ℕ) (m : Message)
     (sent_it : seen.In (record { from = from; to = k; message = m }) M.seen.sent) (a : Asked) (r : Reply) (answer : answers m ≡ Some (a, r))
     (w : Doing) (machine : Machine) (c : What) (n : ℕ) (found : doing_of a.act t.coord ≡ Some w) (now : w.now ≡ Committing machine)

@@ -41,7 +41,7 @@ use Rattle.arj_law_cause.proofs.confirm.{Granted.had_begins, Granted.had_heard, 
 use Rattle.arj_law_cause.proofs.confirm.{Had.HadIn, Had.PlanSo, Had.had_in_more, Had.plan_more, Planned.plan_so, Reached.Reached}
 use Rattle.arj_law_cause.proofs.confirm.{Reached.reached_has, Says.confirms_so, Says.says_of}
 use Rattle.arj_law_cause.proofs.confirm.Placed as placed
-use Rattle.arj_journal.specs.ScriptForm.{HeaderInForm}
+use Rattle.arj_promise.specs.Runs.{HeaderFits}
 use Rattle.arj_law_cause.proofs.rows.Machines.{kept_inc}
 use Rattle.arj_law_cause.proofs.rows.Taking.{bind_is}
 use Rattle.arj_law_cause.proofs.waits.waiting.Acting as acting
@@ -142,7 +142,7 @@ module _ (st : Start) where
 
   -- ---- one node
 
-  module _ (hd : Header) (form : HeaderInForm hd) (k : ℕ) (d : Disk) (t : Parts) (M : Moment) (known : Wide (Reached hd) (up k d t M))
+  module _ (hd : Header) (form : HeaderFits hd) (k : ℕ) (d : Disk) (t : Parts) (M : Moment) (known : Wide (Reached hd) (up k d t M))
       (starts : (let N = M.seen in N.start) ≡ st) (made : AnswersAreMade (confirms_so hd st) (up k d t M)) (had : GrantsAreHad (up k d t M)) where
     abbrev Z : Seen
     Z = let N = up k d t M in seen.with_sent known.0 N.seen
@@ -310,7 +310,7 @@ module _ (st : Start) where
 
   -- ---- every handler
 
-  module _ (hd : Header) (form : HeaderInForm hd) (G : Moment → Type 0) (steps : KeepsSteps hd G)
+  module _ (hd : Header) (form : HeaderFits hd) (G : Moment → Type 0) (steps : KeepsSteps hd G)
       (known : (k : ℕ) (d : Disk) (t : Parts) (M : Moment) → G (up k d t M) → Wide (Reached hd) (up k d t M))
       (starts : (k : ℕ) (d : Disk) (t : Parts) (M : Moment) → G (up k d t M) → (let N = M.seen in N.start) ≡ st)
       (made : (k : ℕ) (d : Disk) (t : Parts) (M : Moment) → G (up k d t M) → AnswersAreMade (confirms_so hd st) (up k d t M)) where

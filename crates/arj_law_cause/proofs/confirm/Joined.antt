@@ -4,7 +4,7 @@ use Rattle.arj_law_parts.proofs.Words
 use Words.body
 use Words.{◌≤◌, ◌++◌, [], ◌∷◌, length, arith, Body, ◌≡◌, ℕ, List, true, is_some, subst, ap, sym, ⊤, Header, Post, Seen, Line, World}
 use Rattle.arj_law_serial.proofs.Terms
-use Terms.{first_values, object_line, HeaderInForm, Kinds, Office, KeepsPart, part_more, State, Fixed, OpsFit, IsReached, IsCleanIn}
+use Terms.{first_values, object_line, HeaderFits, Kinds, Office, KeepsPart, part_more, State, Fixed, OpsFit, IsReached, IsCleanIn}
 use Terms.{SeesHeard}
 use Rattle.arj_law_disk_view.proofs.running.ListedRuns.{IsSeenBegun}
 use Rattle.arj_law_parts.specs.moves.Keeps.{Holds}
@@ -24,7 +24,7 @@ use Rattle.arj_law_cause.proofs.confirm.Reached.{IsOfWorld, Reached, sees_at, wi
 
 -- ---- a world
 
-module _ (hd : Header) (x : ℕ) (form : HeaderInForm hd) (there : is_some (object_line hd x) ≡ true) (w : World) (reached : IsReached hd w)
+module _ (hd : Header) (x : ℕ) (form : HeaderFits hd) (there : is_some (object_line hd x) ≡ true) (w : World) (reached : IsReached hd w)
     (fit : OpsFit x w.lines) where
   Nothing : Fixed → State → Seen → Type 0
   Nothing f S M = ⊤
@@ -87,7 +87,7 @@ pub record IsSeenSo (hd : Header) (x : ℕ) (S : Seen) : Type 0 where
   pub heard : SeesHeard x tops office (with_sent sent S)
   pub clean : IsCleanIn hd S.lines x S
 
-pub seen_so : (hd : Header) (x : ℕ) → HeaderInForm hd → is_some (object_line hd x) ≡ true → (S : Seen) → Reached hd S → IsEarly S.lines →
+pub seen_so : (hd : Header) (x : ℕ) → HeaderFits hd → is_some (object_line hd x) ≡ true → (S : Seen) → Reached hd S → IsEarly S.lines →
     IsSeenSo hd x S
 seen_so hd x form there S r early = record {
   sent = sent;

@@ -4,7 +4,7 @@ use Rattle.arj_law_parts.proofs.Words
 use Words.{⊤, ◌≡◌, ◌∙◌, ℕ, true, List, Some, None, sym, ap, subst, option_map, is_some, Header, ObjectState, Uid, object}
 use Words.{held_at, Used}
 use Words.{Branch, branch_of, Committing, Confirming, Doing, doing_of, Node, Parts, Plan, Seen, World, see}
-use Rattle.arj_journal.specs.ScriptForm.{HeaderInForm}
+use Rattle.arj_promise.specs.Runs.{HeaderFits}
 use Rattle.arj_law_disk.specs.machine.State.{Below, Packed, state_for, target}
 use Rattle.arj_law_disk_view.specs.view.Pairs.{packed}
 use Rattle.arj_law_disk_view.specs.view.Plans.{plan_at, used_at}
@@ -25,7 +25,7 @@ use Rattle.arj_law_cause.proofs.confirm.Labels.{reached_world, world_of}
 use Rattle.arj_law_cause.proofs.confirm.Nexts.{IsNoLater, never_late}
 use Rattle.arj_law_cause.proofs.confirm.Reached.{IsOfWorld, Reached, sees_at, world_at}
 
-module _ (hd : Header) (x : ℕ) (form : HeaderInForm hd) (line : is_some (object_line hd x) ≡ true) (Z : Seen) (reached : Reached hd Z)
+module _ (hd : Header) (x : ℕ) (form : HeaderFits hd) (line : is_some (object_line hd x) ≡ true) (Z : Seen) (reached : Reached hd Z)
     (early : IsEarly Z.lines) where
   h : IsOfWorld hd Z
   h = world_of hd Z reached

@@ -13,7 +13,7 @@ use Words.body
 use Words.mode
 use Words.prepared
 use Words.role
-use Rattle.arj_journal.specs.ScriptForm.{HeaderInForm}
+use Rattle.arj_promise.specs.Runs.{HeaderFits}
 use Rattle.arj_law_disk.specs.machine.State.{target}
 use Rattle.arj_law_disk_view.specs.view.Plans.{plan_at, plan_by, used_at}
 use Rattle.arj_law_lock_view.proofs.Terms.{same_number}
@@ -72,7 +72,7 @@ planned_some : (o : Option Used) (e : Option ObjectState) (k : ℕ) → target (
 planned_some None e k is = absurd (cc is)
 planned_some (Some r) e k is = (r, refl)
 
-module _ (hd : Header) (form : HeaderInForm hd) (Z : Seen) (reached : Reached hd Z) (settled : IsSettled Z.lines)
+module _ (hd : Header) (form : HeaderFits hd) (Z : Seen) (reached : Reached hd Z) (settled : IsSettled Z.lines)
     (had : (j : ℕ) (n : Node) (t : Parts) → Z.nodes j ≡ Some n → n.live ≡ Some t → IsHadSo Z.start Z.lines t.coord) where
   right : AreRight new_book Z.lines
   right = let w = written hd Z reached in w.right
@@ -204,7 +204,7 @@ abbrev tail_of : List Effect → List Effect
 tail_of [] = []
 tail_of (e ∷ es) = es
 
-module _ (hd : Header) (st : Start) (form : HeaderInForm hd) (k : ℕ) (d : Disk) (t v : Parts) (from : ℕ) (m : Message) (h : Head)
+module _ (hd : Header) (st : Start) (form : HeaderFits hd) (k : ℕ) (d : Disk) (t v : Parts) (from : ℕ) (m : Message) (h : Head)
     (states : List ObjectState) (r : Reply) (front : List Effect) (M : Moment) (known : Wide (Reached hd) (up k d t M))
     (starts : (let N = M.seen in N.start) ≡ st) (there : seen.In (record { from = from; to = k; message = m }) M.seen.sent)
     (asking : asks m ≡ Some (h, ask.Prepare states)) (had : GrantsAreHad st (up k d t M)) where
@@ -275,7 +275,7 @@ module _ (hd : Header) (st : Start) (form : HeaderInForm hd) (k : ℕ) (d : Disk
               two (a ∷ b ∷ []) g = absurd (cc (ap tail_of (ap tail_of g)))
               two (a ∷ b ∷ c ∷ es) g = absurd (cc (ap tail_of (ap tail_of g)))
 
-pub old_tells : (hd : Header) (st : Start) → HeaderInForm hd → (K : Moment → Type 0) →
+pub old_tells : (hd : Header) (st : Start) → HeaderFits hd → (K : Moment → Type 0) →
     ((M : Moment) → K M → Wide (Reached hd) M × ((let N = M.seen in N.start) ≡ st) × GrantsAreHad st M) → Tells K (old_so st)
 old_tells hd st form K to k d t v from m h (ask.Confirm grants gone more) r front M known there other meant asking new is = tt
 old_tells hd st form K to k d t v from m h (ask.Bind x include avoid) r front M known there other meant asking new is = tt

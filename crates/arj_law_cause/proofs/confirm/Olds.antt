@@ -14,7 +14,7 @@ use Words.{refusal_in, refusal_of, by_holder, state_eq, uid_number, plan_of, Mac
 use Words.{are_of_objects, is_object, names_object, nat_le, class_code_of, Pair}
 use Words.ask
 use Rattle.arj_base.specs.State.{head_of}
-use Rattle.arj_journal.specs.ScriptForm.{HeaderInForm}
+use Rattle.arj_promise.specs.Runs.{HeaderFits}
 use Rattle.arj_journal.specs.declared.limits.TheConstants.{OBJECTS}
 use Rattle.arj_law_disk.specs.machine.Core.{Core}
 use Rattle.arj_law_disk.specs.machine.State as disk
@@ -147,7 +147,7 @@ same_state s = λ i. uid_same s.uid i && (same_number (head_of s.format) i && (s
 
 -- ---- where a store serves it
 
-module _ (hd : Header) (form : HeaderInForm hd) (Z : Seen) (reached : Reached hd Z) (k : ℕ) (d : Disk) (t : Parts)
+module _ (hd : Header) (form : HeaderFits hd) (Z : Seen) (reached : Reached hd Z) (k : ℕ) (d : Disk) (t : Parts)
     (here : Z.nodes k ≡ Some (record { number = k; disk = d; live = Some t })) (from : ℕ) (m : Message)
     (sent : seen.In (record { from = from; to = k; message = m }) Z.sent) (h : Head) (states : List ObjectState)
     (asking : asks m ≡ Some (h, ask.Prepare states)) (w : Uid) (v : ℕ) (is : prepare_answer (actor h.path) states d.store ≡ Old w v) where

@@ -9,7 +9,7 @@ use Words.{reply_kind, Uid, is_waiting_now, uid_eq, uid_same}
 use Words.ask
 use Words.frame
 use Words.prepared
-use Rattle.arj_journal.specs.ScriptForm.{HeaderInForm}
+use Rattle.arj_promise.specs.Runs.{HeaderFits}
 use Rattle.arj_law_lock_view.proofs.Terms.{same_number, some_is}
 use Rattle.arj_law_lock_view.proofs.facts.Requests.{requests_keep}
 use Rattle.arj_law_lock_view.specs.facts.Requests.{IsAskedBy, RequestsAreKnown}
@@ -46,7 +46,7 @@ use Rattle.arj_law_cause.proofs.waits.waiting.Acting as acting
 
 -- ---- at the coordinator
 
-module _ (hd : Header) (st : Start) (form : HeaderInForm hd) (before : List Line) (event : ℕ) (k : ℕ) (d : Disk) (t : Parts) (M : Moment)
+module _ (hd : Header) (st : Start) (form : HeaderFits hd) (before : List Line) (event : ℕ) (k : ℕ) (d : Disk) (t : Parts) (M : Moment)
     (shown : ShowsFrom hd st before event (up k d t M)) (made : AnswersAreMade (old_so st) (up k d t M)) (from : ℕ) (m : Message)
     (sent_it : seen.In (record { from = from; to = k; message = m }) M.seen.sent) (a : Asked) (y v : ℕ)
     (answer : answers m ≡ Some (a, Reply.Prepared (prepared.Old y v))) (w : Doing) (p : Plan) (left : List ℕ)

@@ -12,7 +12,7 @@ use Words.cause
 use Words.confirmed
 use Words.frame
 use Words.mode
-use Rattle.arj_journal.specs.ScriptForm.{HeaderInForm}
+use Rattle.arj_promise.specs.Runs.{HeaderFits}
 use Rattle.arj_law_disk_view.proofs.Terms.{or_cases, or_left, or_right, plan_at, test_same}
 use Rattle.arj_law_disk_view.proofs.view.ConfirmSteps.{marked_is}
 use Rattle.arj_law_lock_view.proofs.Terms.{same_number, some_is}
@@ -135,7 +135,7 @@ Fits hd st lines b = ⊤
 
 -- ---- at the coordinator
 
-module _ (hd : Header) (st : Start) (form : HeaderInForm hd) (before : List Line) (event : ℕ) (k : ℕ) (d : Disk) (t : Parts) (M : Moment)
+module _ (hd : Header) (st : Start) (form : HeaderFits hd) (before : List Line) (event : ℕ) (k : ℕ) (d : Disk) (t : Parts) (M : Moment)
     (tabled : Shows hd before event (up k d t M)) (made : AnswersAreMade (confirms_so hd st) (up k d t M)) (from : ℕ) (m : Message)
     (sent_it : seen.In (record { from = from; to = k; message = m }) M.seen.sent) (a : Asked) (q : ConfirmedReply)
     (answer : answers m ≡ Some (a, Reply.Confirmed q)) (w : Doing) (p : Plan) (found : doing_of a.act t.coord ≡ Some w)

@@ -6,7 +6,7 @@ use Words.{subst, inl, inr, arith, is_some}
 use Words.{eqb-true, Header, Line, Start, Uid, ObjectState, object, held_at, Used, Plan, Machine, Voting, Preparing, Confirming, plan_of}
 use Words.{Committing}
 use Words.{Node, Parts, Seen, changed_of, find}
-use Rattle.arj_journal.specs.ScriptForm.{HeaderInForm}
+use Rattle.arj_promise.specs.Runs.{HeaderFits}
 use Rattle.arj_law_disk.specs.machine.State.{Below, state_for, target}
 use Rattle.arj_law_disk_view.specs.view.Pairs.{packed}
 use Rattle.arj_law_disk_view.specs.view.Plans.{plan_at, plan_by, used_at}
@@ -27,7 +27,7 @@ used_some : (x : ℕ) (us : List Used) (r : Used) → used_at x us ≡ Some r �
 used_some x [] r is = let no_way : ◌≡◌ {A = Option Used} None (Some r) = is in absurd (cc no_way)
 used_some x (u ∷ us) r is = (u, us, refl)
 
-module _ (hd : Header) (y : ℕ) (form : HeaderInForm hd) (line : is_some (object_line hd y) ≡ true) (Z : Seen) (reached : Reached hd Z)
+module _ (hd : Header) (y : ℕ) (form : HeaderFits hd) (line : is_some (object_line hd y) ≡ true) (Z : Seen) (reached : Reached hd Z)
     (early : IsEarly Z.lines) (u : Uid) (c : IsAtCommit Z u) (left : IsLeft c.machine) (r : Used)
     (used : used_at y (let p = plan_of c.machine in p.used) ≡ Some r) (j : ℕ) (node : Node) (parts : Parts)
     (stored : Z.nodes j ≡ Some node) (working : node.live ≡ Some parts) (g : ObjectState)

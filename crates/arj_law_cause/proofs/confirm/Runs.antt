@@ -14,7 +14,6 @@ use Words.{see, world_from}
 use Words.body
 use Words.cause
 use Words.frame
-use Rattle.arj_journal.specs.ScriptForm.{HeaderInForm}
 use Rattle.arj_law_lock_view.proofs.moments.Answers.{answers_step, first_made, made_closes, made_later, made_opens}
 use Rattle.arj_law_lock_view.specs.moments.Made.{AnswersAreMade, Saying}
 use Rattle.arj_law_parts.proofs.moves.{Flat.post, Happens.Wide, Happens.wide_kept}
@@ -32,7 +31,7 @@ use Rattle.arj_model.specs.CauseCommits.{commit_differs, is_old}
 use Rattle.arj_model.specs.Caused.{has_cause}
 use Rattle.arj_model.specs.Follows.{Runs}
 use Rattle.arj_model.specs.Past.{Along, Past, block, next}
-use Rattle.arj_promise.specs.Runs.{IsInForm, Run, journal_by}
+use Rattle.arj_promise.specs.Runs.{HeaderFits, IsInForm, Run, journal_by}
 use Rattle.arj_law_cause.proofs.votes.Lines as lines
 use Rattle.arj_law_cause.specs.rows.Early.{IsEarly}
 use Rattle.arj_law_cause.proofs.confirm.{Joined.early_before, Labels.runs_have_few, Plain.Ends, Plain.Heard, Plain.Plain}
@@ -155,7 +154,7 @@ module _ (hd : Header) (st : Start) where
   plain_lines (b ∷ bs) all = let z = and_parts (is_plain_line b) (list_all is_plain_line bs) all in
       λ i. plain_line b z.0 i && plain_lines bs z.1 i
 
-  module _ (form : HeaderInForm hd) where
+  module _ (form : HeaderFits hd) where
     heard_turn : (before : List Line) (event k : ℕ) (d : Disk) (t : Parts) (from : ℕ) (m : Message) (M : Moment) →
         Knows before event (up k d t M) → AnswersAreMade (confirms_so hd st) (up k d t M) → AnswersAreMade (old_so st) (up k d t M) →
         GrantsAreHad st (up k d t M) → In (record { from = from; to = k; message = m }) M.seen.sent → (a : Asked) (r : Reply) →

@@ -15,7 +15,7 @@ use Words.{Start}
 use Words.ask
 use Words.confirmed
 use Words.mode
-use Rattle.arj_journal.specs.ScriptForm.{HeaderInForm}
+use Rattle.arj_promise.specs.Runs.{HeaderFits}
 use Rattle.arj_protocol.specs.Named.{conflict_on}
 use Rattle.arj_model.specs.CausePends.{has_some}
 use Rattle.arj_model.specs.Last.{is_among, listed, object_line, servers_of_line}
@@ -107,7 +107,7 @@ confirms_so hd st a before = says_of hd st (let z = a in z.head) (let z = a in z
 
 -- ---- where naming serves it
 
-module _ (hd : Header) (form : HeaderInForm hd) (Z : Seen) (reached : Reached hd Z) (k : ℕ) (d : Disk) (t : Parts) (n : Naming)
+module _ (hd : Header) (form : HeaderFits hd) (Z : Seen) (reached : Reached hd Z) (k : ℕ) (d : Disk) (t : Parts) (n : Naming)
     (named : t.naming ≡ Some n) (here : Z.nodes k ≡ Some (record { number = k; disk = d; live = Some t })) (one : k ≡ 1) (from : ℕ)
     (m : Message) (sent : seen.In (record { from = from; to = k; message = m }) Z.sent) (h : Head) (grants : Grants)
     (excluded included : Marks) (asking : asks m ≡ Some (h, ask.Confirm grants excluded included)) where
@@ -352,7 +352,7 @@ one_front [] x y is = refl
 one_front (f ∷ []) x y is = let no_way : ◌≡◌ {A = List Effect} [] (y ∷ []) = ap tail_of is in absurd (cc no_way)
 one_front (f ∷ g ∷ fs) x y is = let no_way : ◌≡◌ {A = List Effect} [] (g ∷ fs ++ y ∷ []) = ap tail_of is in absurd (cc no_way)
 
-module _ (hd : Header) (st : Start) (form : HeaderInForm hd) (k : ℕ) (d : Disk) (t v : Parts) (from : ℕ) (m : Message) (h : Head)
+module _ (hd : Header) (st : Start) (form : HeaderFits hd) (k : ℕ) (d : Disk) (t v : Parts) (from : ℕ) (m : Message) (h : Head)
     (grants : Grants)
     (excluded included : Marks) (r : Reply) (front : List Effect) (M : Moment) (known : Wide (Reached hd) (up k d t M))
     (there : seen.In (record { from = from; to = k; message = m }) M.seen.sent)
@@ -486,7 +486,7 @@ since_then hd st k d t M known starts = subst (λ i. next_inc st k ≤ i) (sym l
     level = let n : KnowsNext Z = reached_has hd KnowsNext (keeps_asked hd KnowsNext (next_keep hd)) Z known.2 in
         let q = n.1 k (record { number = k; disk = d; live = Some t }) here in (q.1 t refl).0
 
-module _ (hd : Header) (st : Start) (form : HeaderInForm hd) (before : List Line) (event : ℕ)
+module _ (hd : Header) (st : Start) (form : HeaderFits hd) (before : List Line) (event : ℕ)
     (early : (j : ℕ) → (event == up_of j before) ≡ false) where
   commits_say : (k : ℕ) (d : Disk) (t v : Parts) (from : ℕ) (m : Message) (h : Head) (a : Ask) (r : Reply) (front : List Effect)
       (M : Moment) → ShowsFrom hd st before event (up k d t M) → seen.In (record { from = from; to = k; message = m }) M.seen.sent →

@@ -10,7 +10,7 @@ use Rattle.arj_law_parts.proofs.Words
 use Words.{◌≡◌, ◌≤◌, ◌<◌, ◌∙◌, ◌+◌, ℕ, true, List, [], ◌∷◌, Some, option_map, sym, ap, subst, inl, inr, arith, is_some}
 use Words.{Header, Node, ObjectState, Seen, World, held_at, object, at_place, see}
 use Rattle.arj_law_runs.specs.calls.Reached.{IsReached}
-use Rattle.arj_law_serial.proofs.Terms.{HeaderInForm, OpsFit, object_line}
+use Rattle.arj_law_serial.proofs.Terms.{HeaderFits, OpsFit, object_line}
 use Rattle.arj_law_serial.proofs.joint
 use joint.Clean as clean
 use joint.Clean.{AreJoined, OrderedOf, decides_in, held_in, lock_tied, ordered_of, reached_both}
@@ -22,7 +22,7 @@ use Rattle.arj_law_cause.proofs.confirm.Reached.{Reached, sees_at, world_at}
 
 -- ---- what a store holds
 
-module _ (hd : Header) (x : ℕ) (form : HeaderInForm hd) (there : is_some (object_line hd x) ≡ true) (S : Seen) (r : Reached hd S)
+module _ (hd : Header) (x : ℕ) (form : HeaderFits hd) (there : is_some (object_line hd x) ≡ true) (S : Seen) (r : Reached hd S)
     (early : IsEarly S.lines) where
   abbrev w : World
   w = world_at hd S (world_of hd S r)

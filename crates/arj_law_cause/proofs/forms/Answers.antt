@@ -30,7 +30,7 @@ use Rattle.arj_law_cause.proofs.operations.Taking.{AnswersOf, WasSaid}
 use Rattle.arj_law_cause.proofs.spelled.Askers.{lines_have_uids}
 use Rattle.arj_law_cause.proofs.spelled.Messages.{Saves, good_of, saved_keep}
 use Rattle.arj_law_cause.proofs.spelled.Operations.{P, moves_form as in_form, ops_keep}
-use Rattle.arj_law_cause.proofs.spelled.Saving.{OlderRestore, older_restore}
+use Rattle.arj_law_cause.proofs.spelled.Saving.{FirstsRestore, firsts_restore}
 use Rattle.arj_law_cause.proofs.spelled.Servers.{AnswerSays}
 use Rattle.arj_law_cause.proofs.waits.lost.Bound.{all_both}
 use Rattle.arj_law_cause.specs.operations.Says.{Gives}
@@ -168,8 +168,8 @@ each_said (l ∷ ls) all = (one l.body (λ x. (all x).0), each_said ls (λ x. (a
 
 module _ (hd : Header) (r : Run hd) (form : IsInForm hd r) where
   -- in the world behind the run
-  older : OlderRestore (let w = world_by hd r in w.start)
-  older = subst OlderRestore (sym (start_stays hd r)) (older_restore hd r.start r.formed)
+  older : FirstsRestore hd (let w = world_by hd r in w.start)
+  older = subst (FirstsRestore hd) (sym (start_stays hd r)) (firsts_restore hd r.start r.formed form.held)
 
   runs_say_answers : AllByRecursion (λ (line : Line). SaidIt line.body) (journal_by hd r)
   runs_say_answers = each_said (journal_by hd r) one_object

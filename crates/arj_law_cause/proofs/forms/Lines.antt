@@ -5,7 +5,6 @@ use Words.body
 use Words.cause
 use Rattle.arj_base.specs.Uid.{UidFits}
 use Rattle.arj_journal.specs.LineForm.{BodyInForm, LineInForm}
-use Rattle.arj_journal.specs.ScriptForm.{HeaderInForm}
 use Rattle.arj_law_parts.specs.steps.Spoken.{is_of_parts}
 use Rattle.arj_law_promise.proofs.rooms.Actions.{runs_say_actions}
 use Rattle.arj_law_promise.specs.rooms.Actions.{HasIncs, is_of_action}
@@ -14,7 +13,7 @@ use Rattle.arj_law_runs.proofs.forms.{Labels.runs_say_labels, World.node_form, W
 use Rattle.arj_law_runs.specs.addresses.Addresses.{IsNode, SaysOf}
 use Rattle.arj_law_runs.specs.forms.Labels.{LabelsInForm}
 use Rattle.arj_law_runs.specs.forms.World.{IsSaidInForm}
-use Rattle.arj_promise.specs.Runs.{journal_by}
+use Rattle.arj_promise.specs.Runs.{HeaderFits, journal_by}
 use Rattle.arj_law_cause.proofs.forms.Answers.{OkInForm, runs_say_ok}
 use Rattle.arj_law_cause.proofs.forms.Numbers.{runs_say_numbers}
 use Rattle.arj_law_cause.proofs.forms.Objects.{LineSo, runs_name_such}
@@ -38,7 +37,7 @@ record Known (hd : Header) (all : List Line) (b : Body) : Type 0 where
   shows : ShowInForm b
   ok : OkInForm b
 
-module _ (hd : Header) (form : HeaderInForm hd) (all : List Line) (fit : (u : Uid) → Such all u → UidFits u) where
+module _ (hd : Header) (form : HeaderFits hd) (all : List Line) (fit : (u : Uid) → Such all u → UidFits u) where
   body_form : (b : Body) → Known hd all b → BodyInForm b
   body_form (body.Began l k u p) w = w.action refl
   body_form (body.Ok l x o a) w = let k = w.ok in (w.labels, (let n = w.names in n.0), k.0, k.1)

@@ -12,7 +12,7 @@ use Rattle.arj_law_runs.proofs.bindings.Events.{moves_few}
 use Rattle.arj_law_runs.proofs.calls.MadeLines.{counts_are_said}
 use Rattle.arj_law_runs.specs.addresses.Addresses.{IsNode, SaysOf}
 use Rattle.arj_law_runs.specs.calls.Bindings.{AreSaid}
-use Rattle.arj_promise.specs.Runs.{IsInForm, Run, journal_by}
+use Rattle.arj_promise.specs.Runs.{HeaderFits, IsInForm, Run, journal_by}
 use Rattle.arj_law_cause.proofs.forms.Ups.{IsUpInForm, runs_say_ups}
 use Rattle.arj_law_cause.proofs.numbers.Fits.{BodyNums, VersionFits}
 use Rattle.arj_law_cause.proofs.numbers.Nodes.{IsOfObject}
@@ -21,12 +21,11 @@ use Rattle.arj_law_cause.proofs.spelled.Commits.{object_number}
 use Rattle.arj_law_cause.proofs.spelled.Messages.{Saves, fits, good_of, ready_in_form, said_of, saved_keep}
 use Rattle.arj_law_cause.proofs.spelled.Saves.{ReplySays}
 use Rattle.arj_law_promise.specs.meant.Meant.{AskFits}
-use Rattle.arj_law_cause.proofs.spelled.Saving.{OlderRestore}
-use Rattle.arj_journal.specs.ScriptForm.{HeaderInForm}
+use Rattle.arj_law_cause.proofs.spelled.Saving.{FirstsRestore}
 
 -- ---- what is known
 
-module _ (hd : Header) (form : HeaderInForm hd) where
+module _ (hd : Header) (form : HeaderFits hd) where
   abbrev Base : Seen → Type 0
   Base M = Saves hd form M × AreSaid M
 
@@ -45,7 +44,8 @@ module _ (hd : Header) (form : HeaderInForm hd) where
   keep : KeepsAsked hd (λ M. Base M × NumsWhere M)
   keep = numbers_keep hd Base base_keep
       (λ M all p h a there is. object_of a (let s = said_of hd form M (let z = all.0 in z.0) in fits hd form M s.0.0 p h a there is))
-      (λ M all ready p a r there is. version_of (OlderRestore M.start) r (let z = all.0 in let saved = z.1 ready in (saved.1 p there).1 a r is))
+      (λ M all ready p a r there is.
+      version_of (FirstsRestore hd M.start) r (let z = all.0 in let saved = z.1 ready in (saved.1 p there).1 a r is))
       (λ M all. all.1)
 
 -- ---- runs

@@ -1,16 +1,21 @@
 -- Objects and actions that lines name, in every run: of calls, includes and commits, of locks, and of what is prepared and done.
 use Rattle.arj_law_parts.proofs.Words
 use Words.{⊤, ⊎_elim, inr, ◌≡◌, ◌∙◌, ◌+◌, ◌==◌, ◌||◌, ℕ, Bool, true, false, cond, List, [], ◌∷◌, ◌++◌, flat_map, map, find}
-use Words.{Option, Some, None, IfSome, refl, sym, ap, subst, AllByRecursion, and_parts, list_all, either, option_map, in_find, uid_is, numbered, has}
+use Words.{Option, Some, None, IfSome, refl, sym, ap, subst, AllByRecursion, and_parts, list_all, either, option_map, in_find, uid_is}
+use Words.{numbered, has}
 use Words.{uid_set, without_number, uid_eq, last_uid, Body, Header, Line, Message, Uid, Disk, Effect, Ask, Asked, Reply, ObjectState, Row}
 use Words.{InvokedReply, answers, last_end, acked, answer_query, heard, handle_other}
 use Words.{coord_heard, Served, Handled, Work, Prepare, Commit, Abort, PutIntent, RemoveIntent, Stop, Before, After, InPart}
-use Words.{worked, stopped, Do, Say, Send, Look, PutInc, Pair, Parts, handle, holders, query_about, prepared_actions, hello_to, numbers_to, Input}
-use Words.{naming_at, naming_back, back_lines, named_back, rows_back, pending_of, recovered_naming, recovered_records, restart_outs, Kept, Copy}
+use Words.{worked, stopped, Do, Say, Send, Look, PutInc, Pair, Parts, handle, holders, query_about, prepared_actions, hello_to}
+use Words.{numbers_to, Input}
+use Words.{naming_at, naming_back, back_lines, named_back, rows_back, pending_of, recovered_naming, recovered_records, restart_outs, Kept}
+use Words.{Copy}
 use Words.{tolds_again, tell_all, tick_outs, Named, Naming, Server}
 use Words.{Coord, Doing, Calling, Steps, doing_of, Intent, at_uid, is_open, is_deferred, answer_recorded}
-use Words.{answer_decided, is_kept_commit, tell, root_or_self, branch_of, again_all, begin_action, parent_of, with_coord, parts_in, is_serial}
-use Words.{acts as does, Node, Seen, Post, root_of, AreAll, is_coord_effect, is_coord_line, world_by, acked_own, acts_own, again_own, heard_own}
+use Words.{answer_decided, is_kept_commit, tell, root_or_self, branch_of, again_all, begin_action, parent_of, with_coord, parts_in}
+use Words.{is_serial}
+use Words.{acts as does, Node, Seen, Post, root_of, AreAll, is_coord_effect, is_coord_line, world_by, acked_own, acts_own, again_own}
+use Words.{heard_own}
 use Words.{Start, refusal_up}
 use Words.ask
 use Words.body
@@ -23,8 +28,10 @@ use Words.loaded
 use Words.message
 use Words.role
 use Rattle.arj_law_promise.proofs.Terms
-use Terms.{Action, AllSilent, HasObject, HeaderInForm, Holds, In, IsUp, IsUsedIn, KeepsAsked, UsesOf, Up, Walks, WaitsAreKnown, given, it, moves_asked}
-use Terms.{Own, disk_by, first_at, all_each, posted, said, node_here, up, at, halted, walks_both, all_both, all_flat, all_map, asked_both, keeps_asked, IsNode}
+use Terms.{Action, AllSilent, HasObject, HeaderFits, Holds, In, IsUp, IsUsedIn, KeepsAsked, UsesOf, Up, Walks, WaitsAreKnown, given, it}
+use Terms.{moves_asked}
+use Terms.{Own, disk_by, first_at, all_each, posted, said, node_here, up, at, halted, walks_both, all_both, all_flat, all_map, asked_both}
+use Terms.{keeps_asked, IsNode}
 use Terms.{by_coord, by_message, is_act}
 use Rattle.arj_base.specs.Uid.{UidFits, nobody}
 use Rattle.arj_law_disk_view.proofs.running.Lists.{all_put, all_without}
@@ -417,7 +424,7 @@ begun_walk e k v (Send to m ∷ es) d M all pends so others replies = λ lines q
 
 -- ---- every handler
 
-module _ (hd : Header) (form : HeaderInForm hd) where
+module _ (hd : Header) (form : HeaderFits hd) where
   -- with the actions that were begun, by the journal
   abbrev Known : Seen → Type 0
   Known M = Said hd form M × (IsNamed M × IsAlike M)

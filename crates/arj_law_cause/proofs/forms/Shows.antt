@@ -6,7 +6,7 @@ use Words.{ObjectLine, ObjectState, Uid, at_place, entry, held_at, object, state
 use Words.body
 use Rattle.arj_base.specs.Uid.{UidFits}
 use Rattle.arj_journal.specs.LineForm.{BodyInForm, NodeInForm, ObjectInForm}
-use Rattle.arj_journal.specs.ScriptForm.{HeaderInForm, ObjectLineInForm}
+use Rattle.arj_journal.specs.ScriptForm.{ObjectLineInForm}
 use Rattle.arj_journal.specs.declared.limits.TheConstants.{NODES, STORES}
 use Rattle.arj_law_promise.proofs.Terms
 use Terms.{Holds, asked_both, keeps_asked}
@@ -14,7 +14,7 @@ use Rattle.arj_law_runs.proofs.addresses.Lists.{all_at_uid}
 use Rattle.arj_law_runs.proofs.forms.{World.node_form}
 use Rattle.arj_law_runs.specs.addresses.Addresses.{AreOf, IsNode, NodeOf, StateOf}
 use Rattle.arj_model.specs.Last.{object_line}
-use Rattle.arj_promise.specs.Runs.{IsInForm, Run, journal_by}
+use Rattle.arj_promise.specs.Runs.{HeaderFits, IsInForm, Run, journal_by}
 use Rattle.arj_text.specs.Fields.{AreBytes, NodesInForm, NumberInForm, is_distinct}
 use Rattle.arj_law_cause.proofs.kinds.Held.{IsHeldCopy, IsHeldEntry}
 use Rattle.arj_law_cause.proofs.kinds.Shown.{ShowsHeldLine, WasHeld, is_other, runs_show_held}
@@ -27,7 +27,7 @@ use Rattle.arj_law_cause.proofs.waits.lost.Keeping.{DisksFull, disks_keep}
 use Rattle.arj_law_cause.proofs.waits.lost.Stored.{IsFull}
 
 -- a list of stores that isn't empty, of nodes that each stand once
-module _ (hd : Header) (form : HeaderInForm hd) where
+module _ (hd : Header) (form : HeaderFits hd) where
   once_distinct : (ns : List ℕ) → Once ns → is_distinct ns ≡ true
   once_distinct [] once = refl
   once_distinct (n ∷ ns) once = λ i. not (once.0 i) && once_distinct ns once.1 i

@@ -8,7 +8,6 @@ use Words.{lacks_labels, limited, moved, no_labels, node_in, node_of, reasons}
 use Words.{refused_at, run_event, run_unless}
 use Words.event
 use Words.input
-use Rattle.arj_journal.specs.ScriptForm.{HeaderInForm}
 use Rattle.arj_law_parts.proofs.Terms.{refused_to}
 use Rattle.arj_law_parts.proofs.moves.{Events.same_run, Reasons.first_not, Reasons.is_there}
 use Rattle.arj_law_parts.specs.moves.Moments.{Asking, History, asking_of, come, gone, with_taken}
@@ -22,7 +21,7 @@ use Rattle.arj_law_runs.proofs.follow.Refusing.{Came, IsRefused, IsRun}
 use Rattle.arj_law_lock_view.specs.asking.Asked.{accepted_of}
 use Rattle.arj_model.specs.Past.{Asked, Past, asked_of, block, is_refused, next}
 use Rattle.arj_model.specs.Refusals.{asks_by, is_ask_by}
-use Rattle.arj_promise.specs.Runs.{IsStoppedInForm}
+use Rattle.arj_promise.specs.Runs.{HeaderFits, IsStoppedInForm}
 use Rattle.arj_protocol.specs.Step.{refusal_at}
 use Rattle.arj_start.specs.Start.{fresh}
 use Rattle.std.specs.Prelude.{drop}
@@ -86,7 +85,7 @@ module _ (e : Event) (g : History) (u : World) where
 
 -- ---- an event
 
-module _ (hd : Header) (form : HeaderInForm hd) (m : Move) (p : Past) (w : World) (stops : IsStoppedInForm m)
+module _ (hd : Header) (form : HeaderFits hd) (m : Move) (p : Past) (w : World) (stops : IsStoppedInForm m)
     (s : refusing.Stands hd form p w) (on : w.over ≡ false) (g : History) (k : IsToldBy p g)
     (bodies : List Body) (after : frames.Stands hd form (next p (event_of m) bodies) (moved m w)) where
   abbrev u : World

@@ -7,7 +7,6 @@ use Words.{counted}
 use Words.{first_reason, giving, happens, lacks_labels, limited, moved, most_frames, no_labels, reasons, run_unless, world_from}
 use Words.{list_all}
 use Words.body
-use Rattle.arj_journal.specs.ScriptForm.{HeaderInForm}
 use Rattle.arj_law_parts.proofs.Terms.{says}
 use Rattle.arj_law_parts.proofs.Terms.which
 use Rattle.arj_law_parts.specs.steps.Spoken.{is_of_parts}
@@ -18,7 +17,7 @@ use Rattle.arj_law_runs.specs.follow.Frames.{FramesStep, are_so}
 use Rattle.arj_model.specs.CauseSpans.{Here, here_at}
 use Rattle.arj_model.specs.Past.{Past, at_start, block, next}
 use Rattle.arj_model.specs.Refusals.{frame_from, frame_step, last_frame}
-use Rattle.arj_promise.specs.Runs.{IsStoppedInForm}
+use Rattle.arj_promise.specs.Runs.{HeaderFits, IsStoppedInForm}
 use Rattle.arj_promise.specs.Starts.{IsFormed}
 use Rattle.arj_law_cause.proofs.kinds.Filling as filling
 use Rattle.arj_law_cause.proofs.kinds.Filling.{IsFilled, IsFree}
@@ -65,7 +64,7 @@ last_on : (k e : ℕ) (ls : List Line) → frame_from k (ls ++ record { event = 
 last_on k e [] = refl
 last_on k e (l ∷ ls) = last_on (frame_step l.body k) e ls
 
-module _ (hd : Header) (form : HeaderInForm hd) where
+module _ (hd : Header) (form : HeaderFits hd) where
   record Stands (p : Past) (w : World) : Type 0 where
     pub base : frames.Stands hd form p w
     pub filled : IsFilled w

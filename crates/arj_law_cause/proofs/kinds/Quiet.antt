@@ -11,7 +11,6 @@ use Words.{giving, happens, lacks_labels, limited, moved, no_labels, node_number
 use Words.{run_unless, reasons, world_from, IsFormed, Start, list_all, and_parts, slice_get, quiesce}
 use Words.body
 use Words.event
-use Rattle.arj_journal.specs.ScriptForm.{HeaderInForm}
 use Rattle.arj_law_parts.proofs.Terms.{says}
 use Rattle.arj_law_parts.proofs.Terms.which
 use Rattle.arj_law_parts.proofs.moves.{Events.move_with, Firsts.first_stands}
@@ -39,7 +38,7 @@ use Rattle.arj_model.specs.Refusals as model
 use Rattle.arj_model.specs.Refusals.{answers_to, asks_by, down_from, holds_of, is_answer_to, is_down, is_node, is_waiting, last_asked}
 use Rattle.arj_model.specs.Refusals.{open_from, open_step}
 use Rattle.arj_model.specs.Refusals.{was_called}
-use Rattle.arj_promise.specs.Runs.{IsStoppedInForm}
+use Rattle.arj_promise.specs.Runs.{HeaderFits, IsStoppedInForm}
 use Rattle.arj_protocol.specs.Step.{is_idle_with}
 use Rattle.arj_law_cause.proofs.kinds.Accepted.{IsToldBy, told_on}
 use Rattle.arj_law_cause.proofs.kinds.Filling as filling
@@ -166,7 +165,7 @@ acts_all : (test : Act → Bool) (xs : List Act) → ((a : Act) → In a xs → 
 acts_all test [] each = refl
 acts_all test (a ∷ xs) each = λ i. each a (inl refl) i && acts_all test xs (λ x there. each x (inr there)) i
 
-module _ (hd : Header) (form : HeaderInForm hd) where
+module _ (hd : Header) (form : HeaderFits hd) where
   record Stands (p : Past) (w : World) : Type 0 where
     pub base : refusing.Stands hd form p w
     pub filled : IsFilled w

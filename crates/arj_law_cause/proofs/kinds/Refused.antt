@@ -7,7 +7,6 @@ use Words.{Move, World, counted, first_reason}
 use Words.{happens, reasons, world_from}
 use Words.body
 use Words.event
-use Rattle.arj_journal.specs.ScriptForm.{HeaderInForm}
 use Rattle.arj_law_parts.specs.steps.Writes.{node_refusal}
 use Rattle.arj_law_runs.proofs.follow.Along.{Ended, Outcome, Went, event_of, runs_along}
 use Rattle.arj_law_runs.proofs.follow.Frames as frames
@@ -22,7 +21,7 @@ use Rattle.arj_model.specs.CauseSpans.{Here, behind, here_at, holds_in, is_doome
 use Rattle.arj_model.specs.Follows.{is_behind_doom, label_doomed}
 use Rattle.arj_model.specs.Past.{Past, block}
 use Rattle.arj_model.specs.Refusals.{causes, first_cause, refusal}
-use Rattle.arj_promise.specs.Runs.{IsStoppedInForm}
+use Rattle.arj_promise.specs.Runs.{HeaderFits, IsStoppedInForm}
 use Rattle.arj_law_cause.specs.kinds.Kinds.{is_plain_refusal}
 use Rattle.arj_law_cause.specs.kinds.Rows.{RowHoldsWhere, RowStep, row}
 use Rattle.std.proofs.Math.Nat.{add-sub_cancel}
@@ -136,7 +135,7 @@ module _ (hd : Header) (p : Past) (e : Event) where
 
 -- ---- runs
 
-module _ (hd : Header) (form : HeaderInForm hd) (m : Move) (p : Past) (w : World) (stops : IsStoppedInForm m) (s : Stands hd form p w)
+module _ (hd : Header) (form : HeaderFits hd) (m : Move) (p : Past) (w : World) (stops : IsStoppedInForm m) (s : Stands hd form p w)
     (on : w.over ≡ false) where
   goes : Outcome (RowStep is_plain_refusal hd) (Stands hd form) m p w
   goes = by (frames.goes hd form m p w stops s.base on)

@@ -8,7 +8,6 @@ use Words.{⊤, Post, happens, lacks_labels, limited, moved, no_labels, reasons,
 use Words.{IsFormed, IsInForm}
 use Words.body
 use Words.list
-use Rattle.arj_journal.specs.ScriptForm.{HeaderInForm}
 use Rattle.arj_law_lock_view.specs.asking.Asked.{accepted_of}
 use Rattle.arj_law_parts.proofs.Terms.{says}
 use Rattle.arj_law_parts.proofs.moves.{Events.closes_at, Events.happened, Events.opens_at, Events.same_run, Firsts.first_stands}
@@ -26,7 +25,7 @@ use Rattle.arj_model.specs.CauseSpans.{Here}
 use Rattle.arj_model.specs.Follows.{Runs}
 use Rattle.arj_model.specs.Past.{Asked, Past, asked_of, at_start, block, is_refused, next}
 use Rattle.arj_model.specs.Refusals.{asks_by, is_ask_by}
-use Rattle.arj_promise.specs.Runs.{IsStoppedInForm, Run, journal_by}
+use Rattle.arj_promise.specs.Runs.{HeaderFits, IsStoppedInForm, Run, journal_by}
 use Rattle.arj_start.specs.Start.{fresh}
 use Rattle.std.specs.Prelude.{drop}
 use Rattle.arj_law_cause.proofs.kinds.Accepted.{IsToldBy, told_on}
@@ -288,7 +287,7 @@ module _ (test : Here → Body → Bool) (of : Body → Bool) (quiet : (b : Body
 
   -- ---- runs
 
-  module _ (form : HeaderInForm hd) where
+  module _ (form : HeaderFits hd) where
     -- beside it, what was asked is what was accepted
     record Stands (p : Past) (w : World) : Type 0 where
       pub past : History

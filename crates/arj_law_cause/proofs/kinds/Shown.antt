@@ -25,7 +25,7 @@ use Rattle.arj_law_serial.proofs.joint.Clean.{clean_of, decides_in, held_in, loc
 use Rattle.arj_law_serial.proofs.joint.FitRuns.{runs_in_form}
 use Rattle.arj_law_serial.proofs.joint.Starting.{start_stays}
 use Rattle.arj_law_serial.specs.order.Cleaned.{IsCleanIn}
-use Rattle.arj_journal.specs.ScriptForm.{HeaderInForm, EventInForm}
+use Rattle.arj_journal.specs.ScriptForm.{EventInForm}
 use Rattle.arj_model.specs.Actions.{Act, act_in, acts}
 use Rattle.arj_model.specs.CauseNodes.{is_state, shows_object}
 use Rattle.arj_model.specs.CauseSpans.{Here, behind, here_at}
@@ -35,7 +35,8 @@ use Rattle.arj_model.specs.Last.{entry_from, is_among, last_from, listed, object
 use Rattle.arj_model.specs.Refusals.{is_down}
 use Rattle.arj_model.specs.Own.{AreAborted, AreGiveUps, Ends, aborted_of, commit_line}
 use Rattle.arj_model.specs.Past.{Along, Past, at_start, block, next}
-use Rattle.arj_promise.specs.Runs.{AreMovesInForm, AreStopsInForm, IsInForm, IsStoppedInForm, Run, journal_by, most_events}
+use Rattle.arj_promise.specs.Runs.{AreMovesInForm, AreStopsInForm, FirstsAreHeld, HeaderFits, IsInForm, IsStoppedInForm, Run, journal_by}
+use Rattle.arj_promise.specs.Runs.{most_events}
 use Rattle.arj_promise.specs.Starts.{IsFormed}
 use Rattle.arj_text.specs.Label.{name}
 use Rattle.std.proofs.Math.Seq.{take-append_seam}
@@ -336,7 +337,7 @@ pub record WasHeld (hd : Header) (b : Body) : Type 0 where
 abbrev pub ShowsHeldLine : Header → Body → Type 0
 ShowsHeldLine hd b = (is_other b ≡ true) ⊎ WasHeld hd b
 
-module _ (hd : Header) (form : HeaderInForm hd) (st : Start) (formed : IsFormed hd st) where
+module _ (hd : Header) (form : HeaderFits hd) (st : Start) (formed : IsFormed hd st) (firsts : FirstsAreHeld hd st.marks) where
   -- an event and its stops are in form
   abbrev Form : Move → Type 0
   Form m = EventInForm (event_of m) × IsStoppedInForm m
@@ -356,6 +357,7 @@ module _ (hd : Header) (form : HeaderInForm hd) (st : Start) (formed : IsFormed 
   form_now : (p : Past) (w : World) (s : Stands p w) → p.count ≤ most_events → IsInForm hd (run_to p w s)
   form_now p w s few = record {
     header = form;
+    held = firsts;
     events = s.events_form;
     few = subst (λ n. n ≤ most_events) (sym s.long) few;
     stops = s.stops_form;
@@ -539,12 +541,13 @@ forms_of [] a b = tt
 forms_of (m ∷ ms) a b = ((a.0, b.0), forms_of ms a.1 b.1)
 
 both_run : (hd : Header) (r : Run hd) (form : IsInForm hd r) →
-    Runs (Both hd form.header r.start r.formed) r.start (run_events hd r) (journal_by hd r)
+    Runs (Both hd form.header r.start r.formed form.held) r.start (run_events hd r) (journal_by hd r)
 both_run hd r form =
-    runs_along (Both hd form.header r.start r.formed) (Stands hd form.header r.start r.formed) (Form hd form.header r.start r.formed)
+    runs_along (Both hd form.header r.start r.formed form.held) (Stands hd form.header r.start r.formed form.held)
+    (Form hd form.header r.start r.formed form.held)
     (λ p w s. let z = s.turned in z.base.base.base.lines) (λ p w s. let z = s.turned in z.base.base.base.count)
-    (λ m p w its s on. goes hd form.header r.start r.formed m p w s on its) r.start r.moves (world_from hd r.start)
-    (forms_of r.moves form.events form.stops) (first_so hd form.header r.start r.formed)
+    (λ m p w its s on. goes hd form.header r.start r.formed form.held m p w s on its) r.start r.moves (world_from hd r.start)
+    (forms_of r.moves form.events form.stops) (first_so hd form.header r.start r.formed form.held)
 
 -- what holds in runs of few events holds in each run in form
 few_run : (hd : Header) (r : Run hd) (form : IsInForm hd r) (A B : Past → Event → List Body → Type 0) →
@@ -565,11 +568,11 @@ few_run hd r form A B to runs = (
     short top n k a b = omega (arith, a, b)
 
 pub entry_row : RowHolds is_entry_shown
-entry_row hd r form = few_run hd r form (Both hd form.header r.start r.formed) (RowStep (λ h. is_entry_shown) hd)
+entry_row hd r form = few_run hd r form (Both hd form.header r.start r.formed form.held) (RowStep (λ h. is_entry_shown) hd)
     (λ p e bodies few both. (both few).0.0) (both_run hd r form)
 
 pub copy_row : RowHolds is_copy_shown
-copy_row hd r form = few_run hd r form (Both hd form.header r.start r.formed) (RowStep (λ h. is_copy_shown) hd)
+copy_row hd r form = few_run hd r form (Both hd form.header r.start r.formed form.held) (RowStep (λ h. is_copy_shown) hd)
     (λ p e bodies few both. (both few).0.1) (both_run hd r form)
 
 -- ---- lines
@@ -600,7 +603,7 @@ ending_shows hd n (l ∷ m ∷ rest) are = absurd are
 -- each line of a run that shows something shows what was held
 pub runs_show_held : (hd : Header) (r : Run hd) → IsInForm hd r → AllShow hd (journal_by hd r)
 runs_show_held hd r form =
-    let q = few_run hd r form (Both hd form.header r.start r.formed) (λ p e bodies. AllByRecursion (ShowsHeldLine hd) bodies)
+    let q = few_run hd r form (Both hd form.header r.start r.formed form.held) (λ p e bodies. AllByRecursion (ShowsHeldLine hd) bodies)
     (λ p e bodies few both. (both few).1) (both_run hd r form) in
     subst (AllShow hd) (sym q.3) (all_append (λ (l : Line). ShowsHeldLine hd l.body) (let p = q.0 in p.lines) q.1
     (along_shows hd (run_events hd r) (at_start r.start) q.0 q.2 tt) (ending_shows hd (length (run_events hd r)) q.1 q.4))

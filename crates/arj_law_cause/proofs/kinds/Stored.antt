@@ -3,7 +3,7 @@ use Rattle.arj_law_parts.proofs.Words
 use Words.{[], ◌≡◌, ◌∙◌, ℕ, true, Some, None, ap, sym, is_some, Header, Line, List, Node, Seen, held_at, holder_of, object, see}
 use Rattle.arj_law_disk_view.proofs.Terms.{effective_by}
 use Rattle.arj_law_serial.proofs.Terms
-use Terms.{AreDecided, AreRight, BeginsSo, HaveForm, HeaderInForm, Keeping, Kinds, Packed, SeesDisks, SeesStore, World}
+use Terms.{AreDecided, AreRight, BeginsSo, HaveForm, HeaderFits, Keeping, Kinds, Packed, SeesDisks, SeesStore, World}
 use Terms.{decided as decides, first_values, has, is_among}
 use Terms.{last, last_entry, new_book, object_line, packed, packed_entry, place_free, servers_of_line}
 use Rattle.arj_law_serial.proofs.joint.Clean as cleaned
@@ -41,7 +41,7 @@ module _ (hd : Header) (lines : List Line) (right : AreRight new_book lines) (ti
       held.1 ∙ ap Some (one_state held.0 (last_from hd M.start.marks lines x) held.2 (p.keyed (object x) held.0 held.1))
 
 -- in each world that is reached
-pub lasting_of : (hd : Header) (w : world.World) (keeping : Keeping hd w) → HeaderInForm hd → (tied : AreLockTied hd w.lines)
+pub lasting_of : (hd : Header) (w : world.World) (keeping : Keeping hd w) → HeaderFits hd → (tied : AreLockTied hd w.lines)
     (held : cleaned.Held hd w) → cleaned.Decides hd w held → (x : ℕ) → is_some (object_line hd x) ≡ true →
     AreLasting hd w.lines x (see [] w)
 lasting_of hd w keeping form tied held decide x there =

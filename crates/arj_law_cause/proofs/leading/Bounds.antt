@@ -20,7 +20,7 @@ use Rattle.arj_law_cause.proofs.leading.Waiting.{few_wait, who_wait}
 use Rattle.arj_law_cause.proofs.quiesces.Ties as ties
 use Rattle.arj_law_cause.proofs.told.Joined as joined
 use Rattle.arj_law_cause.specs.rounds.Sends.{all_led, carries, is_hello, most_quiesced, most_settled, waiting}
-use Rattle.arj_journal.specs.ScriptForm.{HeaderInForm}
+use Rattle.arj_promise.specs.Runs.{HeaderFits}
 use Rattle.arj_model.specs.Past.{Past}
 use Rattle.arj_model.specs.Refusals.{open_frames}
 
@@ -34,7 +34,7 @@ pub record IsSettling (hd : Header) (q : Past) (w : World) : Type 0 where
   pub works : (k : ℕ) (x : Node) → at_place k w.nodes ≡ Some x → (t : Parts) → x.live ≡ Some t →
       length (at_work t.coord.doings) ≤ of_node k (who_wait q)
 
-pub settling_of : (hd : Header) (form : HeaderInForm hd) (q : Past) (w : World) (s : joined.Inv hd form q w) → Holds hd KnownUp w →
+pub settling_of : (hd : Header) (form : HeaderFits hd) (q : Past) (w : World) (s : joined.Inv hd form q w) → Holds hd KnownUp w →
     open_frames q.lines ≡ opens 1 w.frames →
     ((k : ℕ) → carries is_hello q.lines k ≡ frame_test (λ from to what. is_hello what) (at_place k w.frames)) → IsSettling hd q w
 settling_of hd form q w s h pending hellos = record {

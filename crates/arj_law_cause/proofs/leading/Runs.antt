@@ -13,7 +13,6 @@ use Words.{is_quiet, world_by, world_from, journal_by, parts_in}
 use Words.body
 use Words.event
 use Words.input
-use Rattle.arj_journal.specs.ScriptForm.{HeaderInForm}
 use Rattle.arj_law_parts.proofs.Terms.which
 use Rattle.arj_law_parts.proofs.Terms.{says as world_says}
 use Rattle.arj_law_parts.proofs.moves.{Moving.more_moves, Moving.moves_asked}
@@ -29,7 +28,7 @@ use Rattle.arj_model.specs.Actions.{is_over, path_in}
 use Rattle.arj_model.specs.Own.{aborted_by, aborted_of}
 use Rattle.arj_model.specs.Past.{Past, at_start, block, next}
 use Rattle.arj_model.specs.Refusals.{last_frame}
-use Rattle.arj_promise.specs.Runs.{IsInForm, Run, then}
+use Rattle.arj_promise.specs.Runs.{HeaderFits, IsInForm, Run, then}
 use Rattle.arj_law_cause.proofs.leading.Bounds.{ticks_cost}
 use Rattle.arj_law_cause.proofs.leading.Counts.{frames_long}
 use Rattle.arj_law_cause.proofs.leading.Events as events
@@ -261,7 +260,7 @@ none_left hd st hello more (n ∷ ns) = both (worlds.left_node hd.nodes hello he
     by true = refl
     by false = refl
 
-module _ (hd : Header) (form : HeaderInForm hd) (a : ℕ) where
+module _ (hd : Header) (form : HeaderFits hd) (a : ℕ) where
   stood : (front : Run hd) (p : Past) → Kept hd form p (world_by hd front) → length (acts p.lines) ≤ a → Stood hd a (world_by hd front)
   stood front p s few = (
     moves_asked hd KnownUp (known_up hd) front,

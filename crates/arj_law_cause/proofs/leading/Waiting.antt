@@ -6,7 +6,7 @@ use Words.{slice_get, AllByRecursion, Some, None, Less, Equal, in_to}
 use Words.{Doing, Header, Node, Parts, Uid, World, at_place, doing_of, is_own, is_waiting_now, see, uid_at, uid_order}
 use Rattle.std.specs.Cmp.{nat_cmp_is}
 use Rattle.std.specs.Ordering.{ordering_then}
-use Rattle.arj_journal.specs.ScriptForm.{HeaderInForm}
+use Rattle.arj_promise.specs.Runs.{HeaderFits}
 use Rattle.arj_law_parts.specs.moves.Keeps.{Holds}
 use Rattle.arj_law_parts.specs.parts.Objects.{AreAbove, AreSorted}
 use Rattle.arj_law_runs.proofs.Terms.{Act, acts}
@@ -94,7 +94,7 @@ keys_all P node inc j (d ∷ ds) found = by (is_waiting_now d.now) refl (keys_al
 
 -- ---- at a node
 
-module _ (hd : Header) (form : HeaderInForm hd) (p : Past) (w : World) (s : joined.Inv hd form p w) (h : Holds hd KnownUp w) where
+module _ (hd : Header) (form : HeaderFits hd) (p : Past) (w : World) (s : joined.Inv hd form p w) (h : Holds hd KnownUp w) where
   pub few_wait : (k : ℕ) (x : Node) → at_place k w.nodes ≡ Some x → (t : Parts) → x.live ≡ Some t →
       length (at_work t.coord.doings) ≤ of_node k (who_wait p)
   few_wait k x there t live = same (length (keys node inc 1 t.coord.doings)) (length (at_work t.coord.doings)) (of_node k (who_wait p))

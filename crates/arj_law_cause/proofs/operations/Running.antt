@@ -25,8 +25,7 @@ use Rattle.arj_law_parts.specs.moves.Seen as seen
 use Rattle.arj_law_parts.specs.moves.With.{ArePlain, KeepsAll, KeepsSteps, KeepsWith, UpWith, WalksWith, is_plain_line}
 use Rattle.arj_law_serial.proofs.Terms.{AreSo, kind_of}
 use Rattle.arj_law_serial.proofs.joint.FormRuns.{kept_forms}
-use Rattle.arj_journal.specs.ScriptForm.{HeaderInForm}
-use Rattle.arj_promise.specs.Runs.{world_by}
+use Rattle.arj_promise.specs.Runs.{HeaderFits, world_by}
 use Rattle.arj_law_cause.proofs.waits.waiting.Acting as acting
 use Rattle.arj_law_cause.proofs.operations.Serving.{Facts, tells_gives}
 use Rattle.arj_law_cause.proofs.operations.Taking.{AnswersOf, LinesAnswer, dumb_walk, heard_gives, said_it, turn_walk}
@@ -39,7 +38,7 @@ use Rattle.arj_law_cause.specs.operations.Says.{gives_so}
 abbrev pub Plain : Header → ℕ → Seen → Type 0
 Plain hd x S = Facts hd x S × KnowsAll S
 
-plain_keep : (hd : Header) (x : ℕ) → HeaderInForm hd → Keeps hd (Plain hd x)
+plain_keep : (hd : Header) (x : ℕ) → HeaderFits hd → Keeps hd (Plain hd x)
 plain_keep hd x form = kept_both hd (Facts hd x) KnowsAll
     (kept_both hd Known (AreSo (kind_of hd x)) (known_keep hd) (keeps_given hd Known (AreSo (kind_of hd x)) (kept_forms hd x form)))
     (keeps_given hd (Facts hd x) KnowsAll (halts_keep hd))
@@ -48,7 +47,7 @@ plain_keep hd x form = kept_both hd (Facts hd x) KnowsAll
 abbrev pub Made : Header → ℕ → Moment → Type 0
 Made hd x M = Wide (Plain hd x) M × AnswersAreMade (gives_so x) M
 
-made_keep : (hd : Header) (x : ℕ) → HeaderInForm hd → KeepsAll hd (Made hd x)
+made_keep : (hd : Header) (x : ℕ) → HeaderFits hd → KeepsAll hd (Made hd x)
 made_keep hd x form =
     let wide : KeepsWith hd (IsAtStarts hd (Plain hd x)) (Wide (Plain hd x)) = wide_kept hd (IsAtStarts hd (Plain hd x)) (Plain hd x)
     (keeps_asked hd (Plain hd x) (plain_keep hd x form)) in
@@ -128,7 +127,7 @@ module _ (hd : Header) (x : ℕ) (k : ℕ) (d : Disk) (t : Parts) (M : Moment) (
 
 -- ---- every handler
 
-all_step : (hd : Header) (x : ℕ) → HeaderInForm hd → KeepsSteps hd (All hd x)
+all_step : (hd : Header) (x : ℕ) → HeaderFits hd → KeepsSteps hd (All hd x)
 all_step hd x form = let made = made_keep hd x form in let steps = made.steps in record {
   quiet = λ bs M plain h. (steps.quiet bs M plain h.0, said_it x bs M (plain_all x M.seen.sent bs plain) h.1);
   junk = λ n M fit h. (steps.junk n M fit h.0, said_it x (body.Sent (M.past.frames + 1) 0 n frame.Junk ∷ []) M (tt, tt) h.1);
@@ -164,7 +163,7 @@ all_step hd x form = let made = made_keep hd x form in let steps = made.steps in
         WalksWith (LinesAnswer x) k outs (UpWith (LinesAnswer x) k v) d M → WalksWith (All hd x) k outs (UpWith (All hd x) k v) d M
     both k outs v d M a b = with_both (Made hd x) (LinesAnswer x) k outs (UpWith (Made hd x) k v) (UpWith (LinesAnswer x) k v) d M a b
 
-pub all_keep : (hd : Header) (x : ℕ) → HeaderInForm hd → KeepsAll hd (All hd x)
+pub all_keep : (hd : Header) (x : ℕ) → HeaderFits hd → KeepsAll hd (All hd x)
 all_keep hd x form = let made = made_keep hd x form in record {
   opens = λ e M first number h. (made.opens e M first number h.0, h.1);
   closes = λ bodies M number lines h. (made.closes bodies M number lines h.0, h.1);

@@ -19,7 +19,6 @@ use Words.event
 use Words.input
 use Words.body
 use Rattle.arj_protocol.specs.Asking as asking_of
-use Rattle.arj_journal.specs.ScriptForm.{HeaderInForm}
 use Rattle.arj_law_parts.proofs.moves.Places.{place_same}
 use Rattle.arj_law_parts.proofs.Terms.{says as world_says}
 use Rattle.arj_law_parts.proofs.Terms.which
@@ -31,7 +30,7 @@ use Rattle.arj_law_runs.proofs.follow.Along.{event_of}
 use Rattle.arj_law_runs.proofs.follow.Labeled.{place_there}
 use Rattle.arj_law_runs.proofs.kept.Walked.{same_number as kept_same}
 use Rattle.arj_law_runs.specs.addresses.Addresses.{IsNode, MachineOf, NowOf, PartsOf, StepsOf, UpOf}
-use Rattle.arj_promise.specs.Runs.{Run}
+use Rattle.arj_promise.specs.Runs.{HeaderFits, Run}
 use Rattle.arj_protocol.specs.Step.{step_down}
 use Rattle.arj_law.proofs.Reading.{acts-append}
 use Rattle.arj_law_parts.proofs.moves.Reasons.{first_not, not_not}
@@ -130,7 +129,7 @@ some_left M good k n t found live u q m does now none =
     let w = subst (IsNumbered q.req) now x in
     let no_way : true ≡ false = ap is_empty (sym none) ∙ w.1.1 in cc no_way
 
-module _ (hd : Header) (form : HeaderInForm hd) (front : Run hd) (m : Move) (p : Past) (s : Kept hd form p (world_by hd front))
+module _ (hd : Header) (form : HeaderFits hd) (front : Run hd) (m : Move) (p : Past) (s : Kept hd form p (world_by hd front))
     (on : (let x = world_by hd front in x.over) ≡ false) (few : HasFewBindings (world_by hd front).lines) (alone : hd.nodes ≡ 1) where
   abbrev w : World
   w = world_by hd front
@@ -452,7 +451,7 @@ pub named_branch : (r : Branch → Coord → List (ℕ × Bool)) (c : Coord) (o 
 named_branch r c None free = let no_way : ◌≡◌ {A = Option ℕ} (Some 6) None = free in absurd (cc no_way)
 named_branch r c (Some br) free = (br, refl)
 
-module _ (hd : Header) (form : HeaderInForm hd) (front : Run hd) (m : Move) (p : Past) (bodies : List Body) (s : Kept hd form p
+module _ (hd : Header) (form : HeaderFits hd) (front : Run hd) (m : Move) (p : Past) (bodies : List Body) (s : Kept hd form p
     (world_by hd front))
     (on : (let x = world_by hd front in x.over) ≡ false) (after : Kept hd form (next p (event_of m) bodies) (moved m (world_by hd front)))
     (few : HasFewBindings (moved m (world_by hd front)).lines) where

@@ -11,7 +11,6 @@ use Words.{WaitsOvertaken, Steps, Goal, Include, At, AtActivate, AtNote, Known, 
 use Words.body
 use Words.event
 use Words.cause
-use Rattle.arj_journal.specs.ScriptForm.{HeaderInForm}
 use Rattle.arj_law_parts.proofs.Terms.which
 use Rattle.arj_law_promise.proofs.Terms.{Holds, moves_asked, WaitsAreKnown}
 use Rattle.arj_law_promise.proofs.waiting.Gives.{at_of}
@@ -25,7 +24,7 @@ use Rattle.arj_model.specs.CauseNodes.{is_quiesce}
 use Rattle.arj_model.specs.Past.{Past, block, is_refused, next}
 use Rattle.arj_model.specs.Refusals.{is_committing, is_waiting, waits_for}
 use Rattle.arj_model.specs.Own.{is_refusal_of_commit, may_stand}
-use Rattle.arj_promise.specs.Runs.{Run, then}
+use Rattle.arj_promise.specs.Runs.{HeaderFits, Run, then}
 use Rattle.arj_class.specs.declared.op.Op.{Op}
 use Rattle.arj_law_promise.specs.waiting.Asked.{NamedAt, WasMade, WasNamed}
 use Rattle.arj_law_runs.specs.addresses.Binds.{StandsOn}
@@ -59,7 +58,7 @@ use Rattle.arj_law_cause.proofs.bindings.Latest.{count_small, said_lined}
 use Rattle.std.proofs.lemmas.List.{append_cancel_left}
 
 -- what is kept of a run up to an event: all that lines are tied to, and that it is over where its journal has a limit
-pub record Kept (hd : Header) (form : HeaderInForm hd) (p : Past) (w : World) : Type 0 where
+pub record Kept (hd : Header) (form : HeaderFits hd) (p : Past) (w : World) : Type 0 where
   pub all : joined.Inv hd form p w
   pub limits : w.over ≡ has_limit w.lines
 
@@ -192,7 +191,7 @@ twice_bound lines x b c n k one two less =
         (ap (makes_later x b) two.2 ∙ (λ i. same_number x i && less i))
 
 -- of a run the call that is overtaken is on an object of which two bindings were made
-overtaken_so : (hd : Header) → HeaderInForm hd → (r : Run hd) (k : ℕ) (n : Node) (t : Parts) (u : Uid) (d : Doing) (s : Steps) →
+overtaken_so : (hd : Header) → HeaderFits hd → (r : Run hd) (k : ℕ) (n : Node) (t : Parts) (u : Uid) (d : Doing) (s : Steps) →
     at_place k (let w = world_by hd r in w.nodes) ≡ Some n → n.live ≡ Some t → doing_of u t.coord ≡ Some d → d.now ≡ Calling s →
     IsOvertaken (IsSaid (let w = world_by hd r in w.lines)) s → HasFewBindings (let w = world_by hd r in w.lines) →
     (o : Op) × (s.goal ≡ calls.Run o) × (is_bound_twice (let w = world_by hd r in w.lines) s.x ≡ true)
@@ -242,7 +241,7 @@ overtaken_so hd form r k n t u d s there live does now over few =
 
 -- ---- a call that is overtaken, behind an event
 
-module _ (hd : Header) (form : HeaderInForm hd) (front : Run hd) (m : Move) (q : Past) (after : Kept hd form q (moved m
+module _ (hd : Header) (form : HeaderFits hd) (front : Run hd) (m : Move) (q : Past) (after : Kept hd form q (moved m
     (world_by hd front)))
     (few : HasFewBindings (moved m (world_by hd front)).lines) where
   -- the run with this event
@@ -273,7 +272,7 @@ module _ (hd : Header) (form : HeaderInForm hd) (front : Run hd) (m : Move) (q :
 
 -- ---- an event that nothing cuts short
 
-module _ (hd : Header) (form : HeaderInForm hd) (front : Run hd) (m : Move) (p : Past) (bodies : List Body)
+module _ (hd : Header) (form : HeaderFits hd) (front : Run hd) (m : Move) (p : Past) (bodies : List Body)
     (s : Kept hd form p (world_by hd front)) (after : Kept hd form (next p (event_of m) bodies) (moved m (world_by hd front)))
     (whole : list_any cuts_short bodies ≡ false) where
   lines_on : (moved m (world_by hd front)).lines ≡ (world_by hd front).lines ++ block (p.count + 1) bodies
@@ -291,7 +290,7 @@ module _ (hd : Header) (form : HeaderInForm hd) (front : Run hd) (m : Move) (p :
 
 -- ---- a quiesce that nothing cuts short
 
-module _ (hd : Header) (form : HeaderInForm hd) (front : Run hd) (m : Move) (p : Past) (bodies : List Body)
+module _ (hd : Header) (form : HeaderFits hd) (front : Run hd) (m : Move) (p : Past) (bodies : List Body)
     (s : Kept hd form p (world_by hd front)) (on : (let w = world_by hd front in w.over) ≡ false)
     (step : joined.Said hd form p (event_of m) bodies)
     (after : Kept hd form (next p (event_of m) bodies) (moved m (world_by hd front)))

@@ -22,7 +22,7 @@ use Rattle.arj_protocol.specs.Coord.{is_free, keeping_of, on_root, plan_for, roo
 use Rattle.arj_protocol.specs.Ending.{aborts_with, ends_with, says}
 use Rattle.arj_protocol.specs.Order.{unbound}
 use Rattle.arj_protocol.specs.Tree.{root_of, uses_object}
-use Rattle.arj_journal.specs.ScriptForm.{HeaderInForm}
+use Rattle.arj_promise.specs.Runs.{HeaderFits}
 use Rattle.arj_law_promise.proofs.Terms.{Holds, KeepsAsked, IsGood}
 use Rattle.arj_law_promise.proofs.waiting.Gives.{at_of}
 use Rattle.arj_law_promise.proofs.settling.Waiting.{AllKnown, all_answer, all_kept}
@@ -108,7 +108,7 @@ record IsOld (cs : ℕ → Option Coord) (q : Post) : Type 0 where
   pub is : asks q.message ≡ Some (head, ask)
   pub by : (asked_by head).act ≡ act
 
-module _ (hd : Header) (form : HeaderInForm hd) where
+module _ (hd : Header) (form : HeaderFits hd) where
   abbrev pub P : Seen → Type 0
   P M = AllKnown hd M × IsGood M
 

@@ -19,7 +19,6 @@ use Words.event
 use Words.frame_no
 use Words.input
 use Words.message
-use Rattle.arj_journal.specs.ScriptForm.{HeaderInForm}
 use Rattle.arj_journal.specs.declared.body.FrameKind.{FrameKind}
 use Rattle.arj_law_parts.proofs.Terms.{says as world_says}
 use Rattle.arj_law_parts.proofs.moves.Places.{set_long}
@@ -30,7 +29,7 @@ use Rattle.arj_model.specs.CausePends.{frame_is}
 use Rattle.arj_model.specs.Past.{Past, next}
 use Rattle.arj_model.specs.Refusals.{last_frame}
 use Rattle.arj_model.specs.Refusals as model
-use Rattle.arj_promise.specs.Runs.{Run}
+use Rattle.arj_promise.specs.Runs.{HeaderFits, Run}
 use Rattle.arj_law_cause.proofs.quiesces.Answered.{Kept}
 use Rattle.arj_law_cause.proofs.quiesces.Sends
 use Sends.{SendsOne, count_both, count_sent, goes_one, of_call, taken_one, whole_sent}
@@ -589,7 +588,7 @@ module _ (hd : Header) (q : Past) (w : World) (last : last_frame q.lines ≡ len
       by true = as_it_is (record (record w { arms = m.falls }) { arms = [] }) refl
       by false = asked (first_reason (reasons (event_of m) (record w { arms = m.falls })))
 
-module _ (hd : Header) (form : HeaderInForm hd) (front : Run hd) (m : Move) (p : Past) (bodies : List Body) (s : Kept hd form p
+module _ (hd : Header) (form : HeaderFits hd) (front : Run hd) (m : Move) (p : Past) (bodies : List Body) (s : Kept hd form p
     (world_by hd front))
     (after : Kept hd form (next p (event_of m) bodies) (moved m (world_by hd front))) where
   before_tells : Tells p.start p.lines (let w = world_by hd front in w.frames) (let w = world_by hd front in w.nodes)

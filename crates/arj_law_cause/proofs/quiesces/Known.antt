@@ -3,13 +3,12 @@ use Rattle.arj_law_parts.proofs.Words
 use Words.{◌≡◌, ◌∙◌, ◌+◌, ◌++◌, not, ℕ, Bool, true, false, List, [], ◌∷◌, refl, sym, ap, subst, AllByRecursion, Body, Event, Header, Line, Node, World, Move}
 use Words.{all_moved, moved, world_by, world_from, journal_by, is_up, is_up_at, at_place, lowest_from, None, first_reason, reasons, run_event, run_unless, Start, Frame}
 use Words.body
-use Rattle.arj_journal.specs.ScriptForm.{HeaderInForm}
 use Rattle.arj_law_parts.proofs.Terms.which
 use Rattle.arj_law_runs.proofs.follow.Along.{Ended, Outcome, Went, event_of}
 use Rattle.arj_law_runs.proofs.follow.Telling.{down_on}
 use Rattle.arj_model.specs.Past.{Past, at_start, block, next}
 use Rattle.arj_model.specs.Refusals.{is_down, is_node, open_frames, open_from, open_step}
-use Rattle.arj_promise.specs.Runs.{IsStoppedInForm}
+use Rattle.arj_promise.specs.Runs.{HeaderFits, IsStoppedInForm}
 use Rattle.arj_law_cause.proofs.kinds.Filling.{IsFilled}
 use Rattle.arj_law_cause.proofs.quiesces.Answered.{Kept}
 use Rattle.arj_law_cause.proofs.quiesces.Limits.{ended_same, limits_agree}
@@ -19,7 +18,7 @@ use Rattle.arj_law_cause.proofs.told.Joined as joined
 use Rattle.arj_law_cause.proofs.waits.waiting.Running.{runs_wait}
 use Rattle.arj_law_cause.specs.rounds.Known.{RunsAreKnown, has_limit}
 
-module _ (hd : Header) (form : HeaderInForm hd) where
+module _ (hd : Header) (form : HeaderFits hd) where
   -- who is up, which frames are open and whether the run is over, by these lines of a run that began so
   record Tells (st : Start) (lines : List Line) (w : World) : Type 0 where
     pub ups : (n : ℕ) → is_node hd n ≡ true → is_up_at n w ≡ not (is_down st lines n)

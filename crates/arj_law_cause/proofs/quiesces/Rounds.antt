@@ -13,7 +13,6 @@ use Rattle.arj_promise.specs.Promise.{HasDisks}
 use Rattle.arj_promise.specs.Resting.{HoldAllStates}
 use Words.event
 use Words.world
-use Rattle.arj_journal.specs.ScriptForm.{HeaderInForm}
 use Rattle.arj_law_parts.proofs.moves.Moving.{more_moves}
 use Rattle.arj_law_parts.specs.steps.Named.{names_of}
 use Rattle.arj_law_promise.proofs.settling.{Idle.rounds_idle}
@@ -26,7 +25,7 @@ use Rattle.arj_law_runs.specs.journal.Knows.{IsGiven}
 use Rattle.arj_model.specs.Past.{Past, at_start, next}
 use Rattle.arj_model.specs.Refusals.{is_waiting}
 use Rattle.arj_promise.specs.Resting.{GivesUp, IsGiveUp}
-use Rattle.arj_promise.specs.Runs.{IsInForm, Run, then}
+use Rattle.arj_promise.specs.Runs.{HeaderFits, IsInForm, Run, then}
 use Rattle.arj_law_cause.proofs.quiesces.Answered as answered
 use Rattle.arj_law_cause.proofs.quiesces.Answered.{Kept, quiesce_is}
 use Rattle.arj_law_cause.proofs.quiesces.Ties as ties
@@ -80,7 +79,7 @@ move_of (g ∷ gs) (c ∷ ds) same d (inr there) =
 
 -- ---- who is given up
 
-module _ (hd : Header) (form : HeaderInForm hd) (p : Past) (v : World) (s : Kept hd form p v) (gs : List Move) (ds : List Did)
+module _ (hd : Header) (form : HeaderFits hd) (p : Past) (v : World) (s : Kept hd form p v) (gs : List Move) (ds : List Did)
     (same : map event_of gs ≡ map (λ (d : Did). d.event) ds)
     (all : list_all (λ a. not (is_waiting p a.label) || list_any (λ (d : Did). gives_up a.label d.event) ds) (acts p.lines) ≡ true) where
   module _ (k : ℕ) (n : Node) (t : Parts) (there : at_place k v.nodes ≡ Some n) (live : n.live ≡ Some t) (u : Uid) (q : Doing)
@@ -170,7 +169,7 @@ module _ (hd : Header) (form : HeaderInForm hd) (p : Past) (v : World) (s : Kept
 
 -- ---- a round
 
-module _ (hd : Header) (form : HeaderInForm hd) where
+module _ (hd : Header) (form : HeaderFits hd) where
   -- a quiesce at the end of a run, in words of this world
   quiet_at : (front : Run hd) (w : World) → world_by hd front ≡ w → (n : Move) (p : Past) (bodies : List Body) → Kept hd form p w →
       w.over ≡ false →

@@ -8,7 +8,6 @@ use Words.{commit_reasons, coord_in, coord_of, include_reasons, is_own, is_waiti
 use Words.{refusal_up, see, world_by, world_from, Machine, Steps, IsOvertaken, IsSaid, Did}
 use Words.{acts as does}
 use Words.input
-use Rattle.arj_journal.specs.ScriptForm.{HeaderInForm}
 use Rattle.arj_law_promise.proofs.Terms.{Holds, move_asked, moves_asked}
 use Rattle.arj_law_promise.proofs.waiting.Untold.{its_up}
 use Rattle.arj_law_runs.proofs.resting
@@ -18,7 +17,7 @@ use Rattle.arj_law_runs.specs.calls.Bindings.{HasFewBindings}
 use Rattle.arj_model.specs.Actions.{Act, act_in, acts}
 use Rattle.arj_model.specs.Past.{Past, at_start}
 use Rattle.arj_model.specs.Refusals.{holds_of, is_waiting, waits_for}
-use Rattle.arj_promise.specs.Runs.{Run}
+use Rattle.arj_promise.specs.Runs.{HeaderFits, Run}
 use Rattle.arj_protocol.specs.Asking as asking_of
 use Rattle.arj_law_cause.proofs.quiesces.Alone.{named_branch, some_left}
 use Rattle.arj_law_cause.proofs.quiesces.Answered as answered
@@ -46,7 +45,7 @@ asked_only : (i : Input) (l : Label) (c : Coord) (intents : List (Uid × Intent)
     Moves 0 Idle (actor o.0.path) c (f o.0).part (f o.0).outs → AsksOnly c (does i intents c)
 asked_only i l c intents f o is moves = subst (AsksOnly c) (sym (is ∙ ap (on_branch f c) o.1)) (moved_asks (actor o.0.path) c (f o.0) moves)
 
-module _ (hd : Header) (form : HeaderInForm hd) where
+module _ (hd : Header) (form : HeaderFits hd) where
   -- what answers whoever waits at these nodes is under way
   abbrev WaysAt : (ℕ → Type 0) → World → Type 0
   WaysAt nodes w = Flown (Ways nodes) (ways_more hd (P hd form) (gives hd form) (homes hd form) nodes) w

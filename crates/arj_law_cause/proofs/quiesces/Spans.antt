@@ -10,7 +10,6 @@ use Words.{is_node as world_is, node_of as world_node}
 use Words.body
 use Words.event
 use Words.input
-use Rattle.arj_journal.specs.ScriptForm.{HeaderInForm}
 use Rattle.arj_law_parts.proofs.Terms.{says as world_says}
 use Rattle.arj_law_parts.proofs.Terms.which
 use Rattle.arj_law_parts.proofs.moves.Moving.{more_moves}
@@ -27,7 +26,7 @@ use resting.{Settles.Nobody, Ways.Then, Worlds.Flown, Worlds.Of, Worlds.TicksGiv
 use resting.{Worlds.tick_flown}
 use Rattle.arj_law_runs.specs.calls.Bindings.{HasFewBindings}
 use Rattle.arj_model.specs.Past.{Past, next}
-use Rattle.arj_promise.specs.Runs.{Run, then}
+use Rattle.arj_promise.specs.Runs.{HeaderFits, Run, then}
 use Rattle.arj_law_cause.proofs.quiesces.Answered as answered
 use Rattle.arj_law_cause.proofs.quiesces.Answered.{Kept}
 use Rattle.arj_law_cause.proofs.quiesces.Ties as ties
@@ -115,7 +114,7 @@ tick_is : (n : ℕ) (e : Event) → is_tick_of n e ≡ true → e ≡ event.Tick
 tick_is n (event.Tick k) is = ap event.Tick (eqb-true k n is)
 tick_is n e is = absurd (cc is)
 
-module _ (hd : Header) (form : HeaderInForm hd) (P : Seen → Type 0) (keeps : KeepsAsked hd P)
+module _ (hd : Header) (form : HeaderFits hd) (P : Seen → Type 0) (keeps : KeepsAsked hd P)
     (within : (M : Seen) (p : Post) → P M → In p M.sent → Of hd p.to)
     (I : (ℕ → Type 0) → (ℕ → Option Node) → (Post → Type 0) → (Body → Type 0) → Type 0) (more : (nodes : ℕ → Type 0) → MayGrow (I nodes))
     (message : (nodes : ℕ → Type 0) → MessagesKeep P (I nodes)) (fewer : (nodes other : ℕ → Type 0) (found : ℕ → Option Node)

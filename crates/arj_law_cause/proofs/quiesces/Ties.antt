@@ -4,7 +4,7 @@ use Words.{◌≡◌, ◌∙◌, ◌+◌, ◌≤◌, ◌<◌, ◌==◌, ◌&&◌
 use Words.{arith, nat_tests, nat_le, Option, Some, None, is_some, option_map, AllByRecursion, and_parts, list_all, In, inl, inr, Uid}
 use Words.{Header, Coord, Doing, Idle, Calling, Committing, Now, Node, Parts, World, Frame, at_place, coord_in, coord_of, doing_of, is_node, is_open_frame}
 use Words.{is_up, is_up_at, is_waiting_now, lowest_from, name, see, slice_get, uid_at, is_own, AreUp, NobodyWaits}
-use Rattle.arj_journal.specs.ScriptForm.{HeaderInForm}
+use Rattle.arj_promise.specs.Runs.{HeaderFits}
 use Rattle.arj_law_parts.specs.moves.Moments.{History}
 use Rattle.arj_law_runs.proofs.Terms.{Act, acts}
 use Rattle.arj_law_runs.proofs.follow.Frames as frames
@@ -74,7 +74,7 @@ opens_none k (f ∷ fs) none = by (is_open_frame f) none (opens_none (k + 1) fs)
 waits_not : (l : List ℕ) (p : Past) → waits_for p.accepted p.lines l ≡ None → is_committing p.lines l ≡ false → is_waiting p l ≡ false
 waits_not l p none rests = λ i. is_some (none i) || rests i
 
-module _ (hd : Header) (form : HeaderInForm hd) (p : Past) (w : World) (s : joined.Inv hd form p w) where
+module _ (hd : Header) (form : HeaderFits hd) (p : Past) (w : World) (s : joined.Inv hd form p w) where
   abbrev pub past : History
   past = s.0.1.1.0.0
 

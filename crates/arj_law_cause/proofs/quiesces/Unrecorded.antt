@@ -5,7 +5,6 @@ use Words.{◌≡◌, ◌∙◌, ◌+◌, ◌≤◌, ◌==◌, ◌||◌, ◌&&�
 use Words.{subst, inr, Option, Some, None, is_some, option_map, arith, nat_tests, Header, Move, Uid, World, Node, Parts, Disk, Intent}
 use Words.{Seen, acts, all_moved, at_place, at_uid, has, lowest_from, moved, see, world_by, world_from, journal_by, append-nil}
 use Words.input
-use Rattle.arj_journal.specs.ScriptForm.{HeaderInForm}
 use Rattle.arj_law_parts.proofs.moves.Moving.{more_moves}
 use Rattle.arj_law_promise.proofs.Terms.{Holds, IsGood, KeepsAsked, move_asked, moves_asked}
 use Rattle.arj_law_promise.proofs.settling.Settled.{handlers_settle}
@@ -21,7 +20,7 @@ use Rattle.arj_model.specs.Past.{Past, at_start}
 use Rattle.arj_model.specs.Refusals as model
 use Rattle.arj_promise.specs.Disks.{record_of}
 use Rattle.arj_promise.specs.Promise.{HasDisks}
-use Rattle.arj_promise.specs.Runs.{IsInForm, Run}
+use Rattle.arj_promise.specs.Runs.{HeaderFits, IsInForm, Run}
 use Rattle.arj_law_cause.proofs.quiesces.Rounds as rounds
 use Rattle.arj_law_cause.proofs.quiesces.Sents.{AllSent, sents_kept}
 use Rattle.arj_law_cause.proofs.quiesces.Spans as spans
@@ -36,7 +35,7 @@ use Rattle.arj_law_cause.specs.rounds.Settles.{IsSettled, RunsLeaveNoRecord}
 abbrev Q : Header → Seen → Type 0
 Q hd M = (KnowsPrepared hd M × IsGood M) × IsSo AllSent sents_kept M
 
-module _ (hd : Header) (form : HeaderInForm hd) where
+module _ (hd : Header) (form : HeaderFits hd) where
   keeps : KeepsAsked hd (Q hd)
   keeps = asked_both hd (λ M. KnowsPrepared hd M × IsGood M) (IsSo AllSent sents_kept)
       (keeps_good hd (KnowsPrepared hd) (handlers_settle hd form).0)

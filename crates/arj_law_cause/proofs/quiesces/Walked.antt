@@ -5,7 +5,6 @@ use Words.{refl, sym, ap, subst, arith, nat_tests}
 use Words.{append-nil, AllByRecursion, Body, Event, Header, Line, World, Move, Start, all_moved, moved, world_from, journal_by, world_by}
 use Words.{◌⊎◌, inl, inr, first_reason, reasons, run_unless}
 use Words.body
-use Rattle.arj_journal.specs.ScriptForm.{HeaderInForm}
 use Rattle.arj_law_parts.proofs.Terms.which
 use Rattle.arj_law_parts.proofs.moves.Moving.{more_moves}
 use Rattle.arj_law_runs.proofs.bindings.Events.{moves_few}
@@ -14,7 +13,7 @@ use Rattle.arj_law_runs.proofs.follow.Along.{Ended, Outcome, Went, event_of, ove
 use Rattle.arj_law_runs.specs.follow.Frames.{run_events}
 use Rattle.arj_model.specs.Follows.{AreEnding, Runs}
 use Rattle.arj_model.specs.Past.{Along, Past, at_start, block, next}
-use Rattle.arj_promise.specs.Runs.{IsInForm, IsStoppedInForm, Run, then}
+use Rattle.arj_promise.specs.Runs.{HeaderFits, IsInForm, IsStoppedInForm, Run, then}
 use Rattle.arj_promise.specs.Starts.{IsFormed}
 use Rattle.arj_law_cause.proofs.quiesces.Answered.{Kept}
 use Rattle.arj_law_cause.proofs.quiesces.Limits.{limits_agree}
@@ -25,7 +24,7 @@ use Rattle.arj_law_cause.specs.rounds.Rounds.{Did, WasWritten, behind}
 abbrev did_of : Event → List Body → Did
 did_of e bodies = record { event = e; bodies = bodies }
 
-module _ (hd : Header) (form : HeaderInForm hd) where
+module _ (hd : Header) (form : HeaderFits hd) where
   -- these events were run by these moves, from this run so far and its world on
   abbrev pub IsWalked : List Move → Past → World → List Did → Type 0
   IsWalked ms p w [] = Kept hd form p w × ((ms ≡ []) ⊎ ((all_moved ms w).over ≡ true))

@@ -2,7 +2,7 @@
 use Rattle.arj_law_parts.proofs.Words
 use Words.{◌≡◌, ◌∙◌, ℕ, true, refl, List, Option, Some, None, sym, ap, subst, find, In, in_find, uid_eq, uid_is, Header, Node, ObjectState}
 use Words.{Pair, Seen, Uid, actor, at_uid, holder_of, names_object, object, option_map}
-use Rattle.arj_journal.specs.ScriptForm.{HeaderInForm}
+use Rattle.arj_promise.specs.Runs.{HeaderFits}
 use Words.{Head, Post, ◌∷◌, ◌&&◌, and_parts, are_of_objects, asks, inl, inr, is_object, nat_le, not, []}
 use Words.ask
 use Rattle.arj_journal.specs.declared.limits.TheConstants.{OBJECTS}
@@ -44,7 +44,7 @@ holder_state x u d sorted is = by (find (λ (p : Uid × List ObjectState). names
 
 -- what it was asked to prepare its top has changed
 pub doubt_changed : (hd : Header) (S : Seen) → Reached hd S → (n : ℕ) (a : Node) (x : ℕ) (u : Uid) → S.nodes n ≡ Some a →
-    holder_of (object x) (let d = a.disk in d.store) ≡ Some u → HeaderInForm hd → IsEarly S.lines → has_changed S.lines u x ≡ true
+    holder_of (object x) (let d = a.disk in d.store) ≡ Some u → HeaderFits hd → IsEarly S.lines → has_changed S.lines u x ≡ true
 doubt_changed hd S reached n a x u here held form early =
     subst (λ o. holds_in (λ (b : Act). changes S.lines b.id x) o ≡ true)
     (sym (act_found (acts S.lines) (let s = its_sound S.lines right in s.distinct) its.0 its.1 u (its.2 ∙ post.6)))
@@ -100,7 +100,7 @@ of_objects (t ∷ ts) all s (inr more) = of_objects ts (and_parts (not (names_ob
 -- who asks to prepare a state has changed its object, and so has another one that has it prepared there
 pub prepare_changed : (hd : Header) (S : Seen) → Reached hd S → (n : ℕ) (a : Node) → S.nodes n ≡ Some a → (p : Post) → seen.In p S.sent →
     (h : Head) (states : List ObjectState) → asks p.message ≡ Some (h, ask.Prepare states) → (st : ObjectState) → In st states →
-    (u : Uid) → holder_of st.uid (let d = a.disk in d.store) ≡ Some u → HeaderInForm hd → IsEarly S.lines →
+    (u : Uid) → holder_of st.uid (let d = a.disk in d.store) ≡ Some u → HeaderFits hd → IsEarly S.lines →
     (has_changed S.lines (actor h.path) (let w = st.uid in w.num) && has_changed S.lines u (let w = st.uid in w.num)) ≡ true
 prepare_changed hd S reached n a here p there h states asking st among u held form early = λ i. mine i && theirs i
   where

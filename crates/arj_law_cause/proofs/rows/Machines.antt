@@ -9,7 +9,7 @@ use Words.list
 use Words.ask
 use Words.bound
 use Words.message
-use Rattle.arj_journal.specs.ScriptForm.{HeaderInForm}
+use Rattle.arj_promise.specs.Runs.{HeaderFits}
 use Rattle.arj_law_serial.proofs.Terms
 use Terms.{Action, AgreesApart, AgreesAs, AreApart, AreTied, Fixed, IsSeenIn, KnowsFew, SeesLocks, State, case_of, code_of, first_values}
 use Terms.{view_of}
@@ -65,7 +65,7 @@ all_in {A} P a (x ∷ xs) every (inl same) = subst P same every.0
 all_in P a (x ∷ xs) every (inr i) = all_in P a xs every.1 i
 
 -- what is seen at a node that is up, of a run that reached it
-module _ (hd : Header) (form : HeaderInForm hd) (k : ℕ) (d : Disk) (t : Parts) (M : Seen) (sent : List Post)
+module _ (hd : Header) (form : HeaderFits hd) (k : ℕ) (d : Disk) (t : Parts) (M : Seen) (sent : List Post)
     (reached : Reached hd (with_sent sent (up k d t M))) (early : IsEarly M.lines) where
   abbrev mine : Node
   mine = record { number = k; disk = d; live = Some t }
@@ -294,7 +294,7 @@ module _ (hd : Header) (form : HeaderInForm hd) (k : ℕ) (d : Disk) (t : Parts)
                   z.naming) refl
 
 -- a binding that is kept of a call that was answered, and is known to be recorded, has its server's incarnation
-module _ (hd : Header) (form : HeaderInForm hd) (k : ℕ) (d : Disk) (t : Parts) (M : Seen) (sent : List Post)
+module _ (hd : Header) (form : HeaderFits hd) (k : ℕ) (d : Disk) (t : Parts) (M : Seen) (sent : List Post)
     (reached : Reached hd (with_sent sent (up k d t M))) (early : IsEarly M.lines) where
   pub kept_inc : (u : Uid) (b : Branch) → branch_of u t.coord.tree ≡ Some b → (s : Said) →
       list.In s (let r = root_at (root_of b.path) t.coord in r.said) → (old : Known) →

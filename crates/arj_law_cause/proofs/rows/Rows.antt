@@ -32,7 +32,7 @@ use Rattle.arj_law_runs.specs.calls.Coords.{bare, head_of}
 use Rattle.arj_model.specs.CauseAnswers.{conflict_caused, has_lock, includes_caused, meets, meets_at_naming, meets_at_server}
 use Rattle.arj_model.specs.CauseAnswers.{meets_at_store}
 use Rattle.arj_model.specs.CauseAnswers.{mode_of_call, modes_on_entry, ok_caused, was_told}
-use Rattle.arj_journal.specs.ScriptForm.{HeaderInForm}
+use Rattle.arj_promise.specs.Runs.{HeaderFits}
 use Rattle.arj_model.specs.Actions.{Placed, root_in, top_in}
 use Rattle.arj_model.specs.CausePends.{called_at, is_pending, may_store, pends, pends_from}
 use Rattle.arj_model.specs.CauseAnswers as cause
@@ -729,7 +729,7 @@ module _ (A : List AskedOf) (hd : Header) (k : ℕ) (M : Moment) (h : Here) (hea
         by false = λ j. met j || meets_at_store h c.act q s.x v m from
 
     -- a store's conflict, with one whose commit was called
-    pub store_so : A ≡ h.accepted → HeaderInForm hd → IsEarly M.seen.lines → ((v : Uid) (ls ms : List Line) → M.seen.lines ≡ ls ++ ms →
+    pub store_so : A ≡ h.accepted → HeaderFits hd → IsEarly M.seen.lines → ((v : Uid) (ls ms : List Line) → M.seen.lines ≡ ls ++ ms →
         IsCalledAt ls v → is_on (uids_of s.path) v ≡ false) → (x : Known) (n : ℕ) (rest : List ℕ) (v : Uid) (m : Mode) →
         s.at ≡ AtLoad x n rest →
         r ≡ Reply.Loaded (loaded.InDoubt v) → m ≡ mode.Write → conflict_caused h (name w.label) v m from ≡ true
@@ -741,8 +741,8 @@ module _ (A : List AskedOf) (hd : Header) (k : ℕ) (M : Moment) (h : Here) (hea
         request : T.ask ≡ ask.Load s.x
         request = load_is T.ask s.x (T.same ∙ (λ j. ask_at s.x s.goal [] (at j)))
 
-        so : (pends A from v T.before ≡ true) × (HeaderInForm hd → may_store hd T.before from s.x ≡ true)
-            × (HeaderInForm hd → IsEarly T.before → has_changed T.before v s.x ≡ true)
+        so : (pends A from v T.before ≡ true) × (HeaderFits hd → may_store hd T.before from s.x ≡ true)
+            × (HeaderFits hd → IsEarly T.before → has_changed T.before v s.x ≡ true)
         so = subst (λ z. says_of A hd from (head_of s) z (Reply.Loaded (loaded.InDoubt v)) T.before) request
             (subst (λ z. says_of A hd from (head_of s) T.ask z T.before) is T.so)
 
@@ -766,7 +766,7 @@ module _ (A : List AskedOf) (hd : Header) (k : ℕ) (M : Moment) (h : Here) (hea
             && ((ap (λ z. may_store z T.before from s.x) header ∙ so.1 form) i && (ap (λ z. pends z from v T.before) (sym same) ∙ so.0) i))
 
     -- any conflict's line
-    pub conflict_so : A ≡ h.accepted → HeaderInForm hd → IsEarly M.seen.lines → ((v : Uid) (ls ms : List Line) → M.seen.lines ≡ ls ++ ms →
+    pub conflict_so : A ≡ h.accepted → HeaderFits hd → IsEarly M.seen.lines → ((v : Uid) (ls ms : List Line) → M.seen.lines ≡ ls ++ ms →
         IsCalledAt ls v → is_on (uids_of s.path) v ≡ false) → (v : Uid) (m : Mode) (n : ℕ) → IsConflict s.at r v m n →
         conflict_caused h (name w.label) v m n ≡ true
     conflict_so same form early off v m n (ByNaming avoid at is one) =

@@ -39,7 +39,8 @@ use Rattle.arj_law_promise.proofs.waiting
 use waiting.{Known.binds_own, Named.by_more, Stepping.of_waiting, WriterNodes.put_at}
 use waiting.AskedEffects.{acked_quiet, acts_quiet, heard_quiet, query_quiet, tick_quiet}
 use waiting.Serving.{AllSend, AnswerSo, IsKeptIn, message_served, quiet_silent, quiet_so, restart_asks}
-use Rattle.arj_journal.specs.ScriptForm.{HeaderInForm, are_by_number}
+use Rattle.arj_journal.specs.ScriptForm.{are_by_number}
+use Rattle.arj_promise.specs.Runs.{HeaderFits}
 use Rattle.arj_law_disk_view.specs.view.Plans.{plan_by}
 use Rattle.arj_law_runs.proofs.Terms.{Act, Placed, acts, book, new_book}
 use Rattle.arj_law_runs.proofs.journal.{Models.its_acts, Models.named_in}
@@ -61,7 +62,7 @@ use Rattle.arj_law_cause.proofs.rows.Spans.{or_first, or_last}
 
 -- the node may be a store of the object, where the header is in form
 abbrev pub MayStore : Header → List Line → Of
-MayStore hd lines x n = HeaderInForm hd → may_store hd lines n x ≡ true
+MayStore hd lines x n = HeaderFits hd → may_store hd lines n x ≡ true
 
 -- whoever includes it
 abbrev MayInclude : Header → List Line → Uid → Of

@@ -36,7 +36,7 @@ use Rattle.arj_law_runs.specs.journal.Knows.{IsWritten}
 use Rattle.arj_model.specs.Actions.{halts, is_halted, path}
 use Rattle.arj_model.specs.Past.{Asked as AskedOf, label_of}
 use Rattle.arj_model.specs.Refusals.{has_ended, is_over_act}
-use Rattle.arj_journal.specs.ScriptForm.{HeaderInForm}
+use Rattle.arj_promise.specs.Runs.{HeaderFits}
 use Rattle.arj_law_lock_view.proofs.view.TreeSteps.{above_there}
 use Rattle.arj_law_runs.specs.journal.{Book.new_book, Right.AreRight}
 use Rattle.arj_law_cause.proofs.rows.Pends.{IsCalledAt, called_book}
@@ -98,7 +98,7 @@ pub record Works (A : List AskedOf) (hd : Header) (k : ℕ) (d : Disk) (t : Part
   pub differs : AnswersAreMade (differs_so M.seen.start) (up k d t M)
   pub both : AnswersAreMade (both_so A hd M.seen.start) (up k d t M)
   pub reached : Wide (Reached hd) (up k d t M)
-  pub form : HeaderInForm hd
+  pub form : HeaderFits hd
 
 -- The action that waits, in the journal's words: it's open, has one more asked than answered, and waits for that.
 pub record IsCaller (k : ℕ) (M : Moment) (u : Uid) (w : Doing) (s : Steps) : Type 0 where

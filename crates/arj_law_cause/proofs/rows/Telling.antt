@@ -47,7 +47,7 @@ use Rattle.arj_law_cause.proofs.rows.Inside.{handle_starts}
 use Rattle.arj_law_cause.proofs.rows.Holders.{begun_act, entry_upper, upper_act}
 use Rattle.arj_law_cause.proofs.rows.Meeting.{Meets, bind_clears, bind_meets, bind_writes, free_by, invoke_meets}
 use Rattle.arj_law_cause.proofs.rows.Meeting.{invoke_runs, is_write, lock_by, meets_by}
-use Rattle.arj_journal.specs.ScriptForm.{HeaderInForm}
+use Rattle.arj_promise.specs.Runs.{HeaderFits}
 use Rattle.arj_model.specs.CausePends.{may_store}
 use Rattle.arj_model.specs.CausePends.{pends}
 use Rattle.arj_model.specs.Past.{Asked as AskedOf}
@@ -423,8 +423,8 @@ module _ (hd : Header) (before : List Line) (event : ℕ) (early : (j : ℕ) →
         with_it None there e = let no_way : Void [] ≡ Took v (front ++ Send from (response (asked_by h) r) ∷ []) = e in absurd (cc no_way)
         with_it (Some o) there e = named o there e
 
-    loaded_says : (x : ℕ) → (Unsaid → HeaderInForm hd → may_store hd lines k x ≡ true) →
-        ((u : Uid) → Unsaid → holder_of (object x) d.store ≡ Some u → HeaderInForm hd → IsEarly lines → has_changed lines u x ≡ true) →
+    loaded_says : (x : ℕ) → (Unsaid → HeaderFits hd → may_store hd lines k x ≡ true) →
+        ((u : Uid) → Unsaid → holder_of (object x) d.store ≡ Some u → HeaderFits hd → IsEarly lines → has_changed lines u x ≡ true) →
         Sent (serve k d t from h (ask.Load x)) → says_of A hd k h (ask.Load x) r lines
     loaded_says x stores changed is = by (holder_of (object x) d.store) refl is
       where
@@ -444,7 +444,7 @@ module _ (hd : Header) (before : List Line) (event : ℕ) (early : (j : ℕ) →
             (doubts u quiet (holder_prepared (object x) u d.store at), (λ form. stores quiet form), changed u quiet at))
 
     prepared_says : (states : List ObjectState) → (Unsaid → (s : ObjectState) → In s states → (u : Uid) →
-        holder_of s.uid d.store ≡ Some u → HeaderInForm hd → IsEarly lines →
+        holder_of s.uid d.store ≡ Some u → HeaderFits hd → IsEarly lines →
         (has_changed lines (actor h.path) (let w = s.uid in w.num) && has_changed lines u (let w = s.uid in w.num)) ≡ true) →
         Sent (serve k d t from h (ask.Prepare states)) → says_of A hd k h (ask.Prepare states) r lines
     prepared_says states changed is = by (is_prepared (actor h.path) d.store) (prepare_answer (actor h.path) states d.store) refl refl is
@@ -496,11 +496,11 @@ module _ (hd : Header) (before : List Line) (event : ℕ) (early : (j : ℕ) →
                     ∙ ap (λ z. is_prepared z d.store) (uid_is w (actor h.path) e) ∙ held in absurd (cc no_way)
 
     pub served_says : (a : Ask) → is_again h a t.server ≡ false →
-        ((x : ℕ) → a ≡ ask.Load x → Unsaid → HeaderInForm hd → may_store hd lines k x ≡ true) →
-        ((x : ℕ) (u : Uid) → a ≡ ask.Load x → Unsaid → holder_of (object x) d.store ≡ Some u → HeaderInForm hd → IsEarly lines →
+        ((x : ℕ) → a ≡ ask.Load x → Unsaid → HeaderFits hd → may_store hd lines k x ≡ true) →
+        ((x : ℕ) (u : Uid) → a ≡ ask.Load x → Unsaid → holder_of (object x) d.store ≡ Some u → HeaderFits hd → IsEarly lines →
         has_changed lines u x ≡ true) →
         ((states : List ObjectState) → a ≡ ask.Prepare states → Unsaid → (s : ObjectState) → In s states → (u : Uid) →
-        holder_of s.uid d.store ≡ Some u → HeaderInForm hd → IsEarly lines →
+        holder_of s.uid d.store ≡ Some u → HeaderFits hd → IsEarly lines →
         (has_changed lines (actor h.path) (let w = s.uid in w.num) && has_changed lines u (let w = s.uid in w.num)) ≡ true) →
         Sent (serve k d t from h a) → says_of A hd k h a r lines
     served_says (ask.Invoke x b i ends o) new stores changed prepares is = invoked_says x b i ends o new is

@@ -27,7 +27,6 @@ use Rattle.arj_law_runs.proofs.follow.Refusing as refusing
 use Rattle.arj_law_runs.proofs.follow.Refusing.{Came, IsRefused, IsRun, same_bodies}
 use Rattle.arj_law_runs.specs.addresses.Addresses.{AreAddressed}
 use Rattle.arj_law_runs.specs.follow.Frames.{FramesStep, are_so, run_events}
-use Rattle.arj_journal.specs.ScriptForm.{HeaderInForm}
 use Rattle.arj_model.specs.CauseSpans.{Here, here_at}
 use Rattle.arj_model.specs.Caused.{has_cause}
 use Rattle.arj_model.specs.Actions.{acts, path}
@@ -36,7 +35,7 @@ use Words.{◌≤◌, ◌<◌, AllByRecursion}
 use Rattle.arj_model.specs.CausePends.{is_crash, is_crash_at}
 use Rattle.arj_law_cause.proofs.rows.Worlds.{Fits}
 use Rattle.arj_model.specs.Past.{Asked as AskedOf, Along, Past, asked_of, at_start, block, is_refused, label_of, next}
-use Rattle.arj_promise.specs.Runs.{IsStoppedInForm, journal_by}
+use Rattle.arj_promise.specs.Runs.{HeaderFits, IsStoppedInForm, journal_by}
 use Rattle.arj_law_cause.proofs.rows.{Accepting.asked_same, Accepting.refused_asks, Accepting.same_refusal, Asks.AreSameAsks}
 use Rattle.arj_law_cause.proofs.rows.{Asks.asks_some}
 use Rattle.arj_law_cause.proofs.rows.Calls.{AreRising, rising_more}
@@ -172,7 +171,7 @@ counted_next p e bodies c = let z = of (is_refused bodies) in record { rising = 
     of true = (c.rising, all_up p.accepted c.low)
     of false = (rising_more p.accepted (asked_of p e) c.rising (all_less p.accepted c.low), one_more p.accepted (all_up p.accepted c.low))
 
-module _ (hd : Header) (form : HeaderInForm hd) (st : Start) where
+module _ (hd : Header) (form : HeaderFits hd) (st : Start) where
   -- ---- what is known
 
   abbrev Knows : Moment → Type 0

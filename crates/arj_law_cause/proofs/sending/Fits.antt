@@ -9,7 +9,7 @@ use Words.body
 use Words.cause
 use Words.event
 use Rattle.arj_law_parts.proofs.Terms.which
-use Rattle.arj_journal.specs.ScriptForm.{HeaderInForm}
+use Rattle.arj_promise.specs.Runs.{HeaderFits}
 use Rattle.arj_law_runs.specs.follow.Frames.{are_so}
 use Rattle.arj_model.specs.Actions.{Act, act_in, acts}
 use Rattle.arj_model.specs.CauseNodes.{restarts}
@@ -90,7 +90,7 @@ module _ (hd : Header) where
     pub full : is_limited (next p e bodies).lines ≡ true → last_frame (next p e bodies).lines ≡ most_frames
     pub hello : (k : ℕ) → carries is_hello p.lines k ≡ true → has_up p.lines ≡ true
 
-  module _ (form : HeaderInForm hd) where
+  module _ (form : HeaderFits hd) where
     few_others : others hd ≤ 15
     few_others = let n = form.nodes in low hd.nodes n.1
       where

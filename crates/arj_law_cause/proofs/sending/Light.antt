@@ -6,7 +6,6 @@ use Words.{None}
 use Words.{Body, Header, Line, Message, Frame, Move, at_place, frame_kind, journal_by, most_frames, moved, world_by}
 use Words.body
 use Words.message
-use Rattle.arj_journal.specs.ScriptForm.{HeaderInForm}
 use Rattle.arj_law_parts.proofs.Terms.which
 use Rattle.arj_law_parts.proofs.moves.{Happens.keeps_asked, Moving.moves_asked, Places.all_placed}
 use Rattle.arj_law_parts.specs.moves.Keeps.{IsSent}
@@ -17,7 +16,7 @@ use Rattle.arj_law_runs.specs.follow.Frames.{run_events}
 use Rattle.arj_model.specs.Follows.{Runs, is_frame_limit, is_limited}
 use Rattle.arj_model.specs.Past.{Past, next}
 use Rattle.arj_model.specs.Refusals.{last_frame}
-use Rattle.arj_promise.specs.Runs.{IsInForm, Run}
+use Rattle.arj_promise.specs.Runs.{HeaderFits, IsInForm, Run}
 use Rattle.arj_law_cause.proofs.kinds.Up.{up_row}
 use Rattle.arj_law_cause.proofs.quiesces.Answered.{Kept}
 use Rattle.arj_law_cause.proofs.quiesces.Framed.{sends_few}
@@ -49,7 +48,7 @@ limit_of (l ∷ lines) is = by (is_frame_limit l.body) refl is (limit_of lines)
     by true here is rest = λ i. frames l.body here i || has_limit lines
     by false none is rest = either (is_limit l.body) (has_limit lines) (rest is)
 
-module _ (hd : Header) (form : HeaderInForm hd) (front : Run hd) (m : Move) (p : Past) (bodies : List Body)
+module _ (hd : Header) (form : HeaderFits hd) (front : Run hd) (m : Move) (p : Past) (bodies : List Body)
     (s : Kept hd form p (world_by hd front)) (on : (let w = world_by hd front in w.over) ≡ false)
     (step : joined.Said hd form p (event_of m) bodies) (after : Kept hd form (next p (event_of m) bodies) (moved m
     (world_by hd front))) where

@@ -12,7 +12,7 @@ use Words.{parts_in}
 use Words.{restart_outs, Branch, at_place, is_own, root_of, Seen, uid_eq, ask_kind, reply_kind, ask_of}
 use Words.input
 use Rattle.arj_law_promise.proofs.Terms
-use Terms.{AreAt, HasObject, HeaderInForm, IsUp, IsUsedIn, KeepsAsked, NowIsSo, OwnOf, UsesOf, Up, Walks, WaitsAreKnown, all_each}
+use Terms.{AreAt, HasObject, HeaderFits, IsUp, IsUsedIn, KeepsAsked, NowIsSo, OwnOf, UsesOf, Up, Walks, WaitsAreKnown, all_each}
 use Terms.{asked_both, at_again, at_begins, at_heard, came_acts, given, halted, is_act, it, keeps_asked, kind_of, node_here, stored}
 use Terms.{up, walks_both, AreOnce, IsNumbered}
 use Rattle.arj_law_lock_view.proofs.facts.CommitCoords.{at_acked}
@@ -53,7 +53,7 @@ Base hd M = MeantAreKnown hd M × IsSo Room rooms M
 
 -- ---- numbers of the header
 
-module _ (hd : Header) (form : HeaderInForm hd) where
+module _ (hd : Header) (form : HeaderFits hd) where
   pub object_number : (x : ℕ) → HasObject hd x → IsObject x
   object_number x has =
       let all = and_parts (uid_eq (object x) (object x)) (nat_le 1 x && nat_le x 256) (object_is hd form x has (object x) refl) in
@@ -83,7 +83,7 @@ once_rising [] once = tt
 once_rising (u ∷ us) once =
     (all_map (λ (v : Used). u.x < v.x) (λ (m : ℕ). u.x < m) (λ (w : Used). w.x) us (λ v less. less) once.0, once_rising us once.1)
 
-module _ (hd : Header) (form : HeaderInForm hd) (k : ℕ) (d : Disk) (t : Parts) (M : Seen) (base : Base hd (up k d t M)) where
+module _ (hd : Header) (form : HeaderFits hd) (k : ℕ) (d : Disk) (t : Parts) (M : Seen) (base : Base hd (up k d t M)) where
   abbrev here : Node
   here = record { number = k; disk = d; live = Some t }
 
@@ -179,7 +179,7 @@ joins_once p r c = by (objects_in (actor p) r c)
       by xs,
     )
 
-module _ (hd : Header) (form : HeaderInForm hd) where
+module _ (hd : Header) (form : HeaderFits hd) where
   base_keep : KeepsAsked hd (Base hd)
   base_keep = asked_both hd (MeantAreKnown hd) (IsSo Room rooms) (meant_keep hd form)
       (keeps_asked hd (IsSo Room rooms) (all_keep_so Room rooms hd))

@@ -14,7 +14,7 @@ use Words.message
 use Words.prepared
 use Words.voted
 use Rattle.arj_law_promise.proofs.Terms
-use Terms.{HasObject, HeaderInForm, Holds, In, IsGood, KeepsAsked, Own, all_each, asked_both, keeps_asked, moves_asked}
+use Terms.{HasObject, HeaderFits, Holds, In, IsGood, KeepsAsked, Own, all_each, asked_both, keeps_asked, moves_asked}
 use Rattle.arj_class.specs.declared.op.Answer.TheVariants as answer
 use Rattle.arj_law_disk_view.specs.running.States.{ReplyIsSo}
 use Rattle.arj_law_parts.specs.parts.Incs.{SaysInc}
@@ -34,7 +34,7 @@ use Rattle.arj_law_cause.proofs.spelled.Requests.{AreShort, Known, requests_keep
 use Rattle.arj_law_cause.proofs.spelled.Operations.{ops_in_form}
 use Rattle.arj_law_cause.proofs.spelled.Askers.{lines_have_uids}
 use Rattle.arj_law_cause.proofs.spelled.Saves.{F, MessageSaves, Saved}
-use Rattle.arj_law_cause.proofs.spelled.Saving.{IsReady, OlderRestore, SavesWhere, older_restore, saves_keep}
+use Rattle.arj_law_cause.proofs.spelled.Saving.{FirstsRestore, IsReady, SavesWhere, firsts_restore, saves_keep}
 use Rattle.arj_law_cause.proofs.spelled.Servers.{AnswerSays, InvokedSays}
 use Rattle.arj_law_cause.proofs.spelled.Tolds.{ToldFew, ToldsFew, tolds_keep}
 use Rattle.arj_law_cause.proofs.spelled.Votes.{IsVotedFew, VotesAreFew, votes_keep}
@@ -45,7 +45,7 @@ use Rattle.arj_msg.specs.Sendable.{VotedSends}
 use Rattle.arj_text.proofs.Values.{op_in_form}
 use Rattle.arj_text.specs.Fields.{OpTextInForm}
 
-module _ (hd : Header) (form : HeaderInForm hd) where
+module _ (hd : Header) (form : HeaderFits hd) where
   abbrev pub Short : Seen → Type 0
   Short M = Known hd form M × RequestsAre (λ h a. AreShort a) M
 
@@ -113,7 +113,7 @@ module _ (hd : Header) (form : HeaderInForm hd) where
   good_of M all = good M (let s = said_of M all in let n = s.0 in n.0)
 
   abbrev pub Saves : Seen → Type 0
-  Saves M = Alike M × SavesWhere M
+  Saves M = Alike M × SavesWhere hd M
 
   pub saved_keep : KeepsAsked hd Saves
   saved_keep = saves_keep hd form Alike alike_keep good_of (λ M all. let a = all.1 in a.1)
@@ -232,7 +232,7 @@ left_of A sure m s ops = tt
 
 -- ---- in every run
 
-module _ (hd : Header) (form : HeaderInForm hd) (w : World) (h : Holds hd (Saves hd form) w) where
+module _ (hd : Header) (form : HeaderFits hd) (w : World) (h : Holds hd (Saves hd form) w) where
   abbrev M : Seen
   M = see h.sent w
 
@@ -275,12 +275,12 @@ module _ (hd : Header) (form : HeaderInForm hd) (w : World) (h : Holds hd (Saves
   pub spelled : Holds hd AreSendable w
   spelled = record { sent = h.sent; stands = h.stands; holds = its }
 
-  pub restored : IsReady M → OlderRestore M.start → Holds hd AreSpelled w
+  pub restored : IsReady M → FirstsRestore hd M.start → Holds hd AreSpelled w
   restored ready older = record {
     sent = h.sent;
     stands = h.stands;
     holds = λ p there. let k = h.holds in let all = k.1 ready in
-        its p there (left_of (OlderRestore M.start) older p.message (all.1 p there)
+        its p there (left_of (FirstsRestore hd M.start) older p.message (all.1 p there)
         (λ z x b i ends o is. let ops = ready.0 in ops p z x b i ends o there is));
   }
 
@@ -309,4 +309,4 @@ runs_in_form hd r form =
     let header = form.header in
     let h = ready_in_form hd (Saves hd header) (saved_keep hd header) (λ M all. good_of hd header M all.0) r form in
     restored hd header (world_by hd r) (record { sent = h.sent; stands = h.stands; holds = (let b = h.holds in b.0) })
-    (let k = h.holds in k.1) (subst OlderRestore (sym (start_stays hd r)) (older_restore hd r.start r.formed))
+    (let k = h.holds in k.1) (subst (FirstsRestore hd) (sym (start_stays hd r)) (firsts_restore hd r.start r.formed form.held))

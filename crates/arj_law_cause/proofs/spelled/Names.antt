@@ -12,7 +12,7 @@ use Words.role
 use Words.naming
 use Rattle.arj_law_parts.proofs.moves.EachNode as at_each
 use Rattle.arj_law_promise.proofs.Terms
-use Terms.{HeaderInForm, ObjectLineInForm, KeepsAsked, Own, Up, Walks, at, disk_by, entries_from, entry_by, first_at, given, posted, said}
+use Terms.{HeaderFits, ObjectLineInForm, KeepsAsked, Own, Up, Walks, at, disk_by, entries_from, entry_by, first_at, given, posted, said}
 use Terms.{walks_both}
 use Rattle.arj_law_runs.proofs.addresses.Lists.{all_at_uid}
 use Rattle.arj_law_runs.specs.addresses.Addresses.{AreOf, DiskOf, IsNode, StateOf}
@@ -164,7 +164,7 @@ list_within n most ns few less is =
     more : (k : ℕ) → k ≤ most → nat_le k STORES ≡ true
     more k low = grind (arith, nat_tests, low, less)
 
-module _ (hd : Header) (form : HeaderInForm hd) (st : Start) (formed : IsFormed hd st) where
+module _ (hd : Header) (form : HeaderFits hd) (st : Start) (formed : IsFormed hd st) where
   lines_once : (os : List ObjectLine) → AllByRecursion (ObjectLineInForm hd.nodes) os →
       AllByRecursion (Own Apart) (map (λ (o : ObjectLine). entry_by hd.format (let m = st.marks in m.entries o.x) o) os)
   lines_once [] all = tt
@@ -202,7 +202,7 @@ module _ (hd : Header) (form : HeaderInForm hd) (st : Start) (formed : IsFormed 
 -- ---- in every run
 
 -- beside what is kept by every handler
-pub names_keep : (hd : Header) → HeaderInForm hd → (R : Seen → Type 0) → KeepsAsked hd R → KeepsAsked hd (λ M. R M × NamesSo M)
+pub names_keep : (hd : Header) → HeaderFits hd → (R : Seen → Type 0) → KeepsAsked hd R → KeepsAsked hd (λ M. R M × NamesSo M)
 names_keep hd form R keeps = record {
   quiet = λ e bs M quiet g. (keeps.quiet e bs M quiet g.0, g.1);
   stop = λ e k d live M g. (
@@ -237,7 +237,7 @@ names_keep hd form R keeps = record {
 
 -- ---- how many
 
-pub few_stores : (hd : Header) → HeaderInForm hd → (d : Disk) → Names d → DiskOf (IsNode hd) d → (x : ℕ) →
+pub few_stores : (hd : Header) → HeaderFits hd → (d : Disk) → Names d → DiskOf (IsNode hd) d → (x : ℕ) →
     length (let e = listed_entry x d.names in e.stores) ≤ 16
 few_stores hd form d names of x = by (held_at (entry x) d.names) refl
   where

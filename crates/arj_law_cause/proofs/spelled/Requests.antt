@@ -7,7 +7,7 @@ use Words.{joins_left, state_for, Calling, Committing, Idle, Now, Disk, Parts, e
 use Words.{Seen, actor}
 use Words.ask
 use Rattle.arj_law_promise.proofs.Terms
-use Terms.{HeaderInForm, IsSentBy, KeepsAsked, all_filter, bare, node_here, up}
+use Terms.{HeaderFits, IsSentBy, KeepsAsked, all_filter, bare, node_here, up}
 use Rattle.arj_law_promise.proofs.meant.Posts.{RequestsAre, posts_keep}
 use Rattle.arj_law_runs.proofs.addresses.Lists.{all_flat, all_map}
 use Rattle.arj_law_runs.proofs.coordinators.RunCoords.{few_ends}
@@ -60,7 +60,7 @@ call_short (ask.Confirm grants ex inc) of few = absurd of
 
 -- ---- a step of a commit
 
-module _ (hd : Header) (form : HeaderInForm hd) where
+module _ (hd : Header) (form : HeaderFits hd) where
   both_marks : (ms : List (ℕ × ℕ)) → AllByRecursion OfObject ms → AllByRecursion (λ (m : ℕ × ℕ). IsOfHeader hd m.1) ms →
       AllByRecursion IsMark ms
   both_marks [] objects nodes_are = tt

@@ -1,40 +1,31 @@
 -- Values of copies are in form, so what a server votes restores, and what it answers is in form: where operations are, and older states restore.
 -- Whether these restore or not, payloads are bytes, and versions have 64 bits.
 use Rattle.arj_law_parts.proofs.Words
-use Words.{◌≡◌, ◌∙◌, ◌+◌, ◌-◌, ◌==◌, ◌≤◌, ◌<◌, ◌++◌, ℕ, zero, suc, List, [], ◌∷◌, Bool, true, false, cond, if◌then◌else◌, length, nat_lt, Option, Some}
+use Words.{◌≡◌, ◌∙◌, ◌+◌, ◌-◌, ◌==◌, ◌≤◌, ℕ, List, [], ◌∷◌, Bool, true, false, cond, if◌then◌else◌, length, nat_lt, Option, Some}
 use Words.{None, option_map, IfSome, refl, sym, subst, arith, ⊤, AllByRecursion, cons_option, filter_map, either, Answer, Binding, End, Head}
-use Words.{InvokedReply, ObjectState, Op, Path, Row, Uid, Value, VotedReply, What, actor, answer_of, payload_of, value_after, ValueInForm, PairsFit}
-use Words.{value_back, value_in, state_value, put_pair, Class, Copy, Over, ask_copy, changed_state, current, over_of, state_over, is_full_for}
-use Words.{class_code_of, is_value_of, Served, void, Server, activate, apply_ends, first_unbound, has_ended, invoke, next_version, other_inc, told, vote, vote_now}
+use Words.{InvokedReply, ObjectState, Op, Path, Row, Uid, Value, VotedReply, What, actor, answer_of, ValueInForm, PairsFit}
+use Words.{value_back, value_in, state_value, Class, Copy, Over, ask_copy, changed_state, current, over_of, state_over, is_full_for}
+use Words.{Served, void, Server, activate, apply_ends, first_unbound, has_ended, invoke, next_version, other_inc, told, vote, vote_now}
 use Words.class
 use Words.invoked
 use Words.value
 use Words.voted
-use Rattle.arj_base.specs.declared.state.Format.TheVariants as format
 use Rattle.arj_class.specs.declared.limits.TheConstants.{REGISTER_BYTES}
 use Rattle.arj_class.specs.declared.op.Answer.TheVariants as answer
 use Rattle.arj_class.specs.declared.op.Op.TheVariants as op
-use Rattle.arj_class.specs.Forms.{FormatHolds, NumbersFit}
-use Rattle.arj_class.specs.Keys.{pair_bytes}
+use Rattle.arj_class.specs.Forms.{NumbersFit}
 use Rattle.arj_class.specs.Table.{front_of, number_or_nothing, value_at}
-use Rattle.arj_law_runs.proofs.addresses.Lists.{all_append, all_flat}
 use Rattle.arj_law_serial.proofs.Terms.{OpTextInForm}
 use Rattle.arj_law_serial.proofs.joint.FormCopies as copies
 use Rattle.arj_law_serial.proofs.joint.FormCopies.{KeepCopies, ServerIs}
+use Rattle.arj_law_serial.proofs.joint.{GivenBytes.SaysBytes, GivenBytes.after_bytes, GivenBytes.payload_bytes, GivenBytes.two_holds}
 use Rattle.arj_law_serial.proofs.joint.GivenForms.{after_in_form}
 use Rattle.arj_law_serial.specs.joint.Forms.{HasValues}
 use Rattle.arj_msg.specs.InForm.{IsLong}
 use Rattle.arj_msg.specs.Sendable.{StateSends}
-use Rattle.arj_text.specs.Fields.{AreBytes, AreBytesUpTo, NumberInForm, ValueTextInForm}
-use Rattle.std.specs.Int.{byte_at, bytes_high_first}
-use Rattle.std.specs.Prelude.{◌%◌, ◌/◌, ◌^◌}
+use Rattle.arj_text.specs.Fields.{AreBytes, AreBytesUpTo, NumberInForm}
 
 -- ---- what is so
-
--- what a register holds are bytes
-abbrev pub SaysBytes : Value → Type 0
-SaysBytes (value.Register bytes) = AreBytes bytes
-SaysBytes v = ⊤
 
 -- a value is in form, where this holds
 abbrev pub IsValue : Type 0 → Value → Type 0
@@ -61,39 +52,6 @@ InvokedSays A r = ⊤
 
 -- ---- bytes
 
-high_bytes : (k n : ℕ) → AreBytes (bytes_high_first k n)
-high_bytes zero n = tt
-high_bytes (suc k) n = (below k, high_bytes k n)
-  where
-    less : (m : ℕ) → m % 256 < 256
-    less m = omega arith
-
-    below : (j : ℕ) → byte_at j n < 256
-    below zero = less n
-    below (suc j) = less (n / 256 ^ suc j)
-
-any : {X : Type 0} (xs : List X) → AllByRecursion (λ (x : X). ⊤) xs
-any [] = tt
-any (x ∷ xs) = (tt, any xs)
-
-code : (c : Class) → class_code_of c < 256
-code class.Entry = omega arith
-code class.Counter = omega arith
-code class.Register = omega arith
-code class.Account = omega arith
-code class.Queue = omega arith
-code class.Table = omega arith
-code class.Gone = omega arith
-
-pub payload_bytes : (v : Value) → SaysBytes v → AreBytes (payload_of v)
-payload_bytes (value.Counter n) its = high_bytes 8 n
-payload_bytes (value.Register bytes) its = its
-payload_bytes (value.Account n) its = high_bytes 8 n
-payload_bytes (value.Queue ns) its = all_flat (λ n. ⊤) (λ b. b < 256) (bytes_high_first 8) ns (λ n u. high_bytes 8 n) (any ns)
-payload_bytes (value.Table ps) its = all_flat (λ (p : ℕ × ℕ). ⊤) (λ b. b < 256) pair_bytes ps
-    (λ p u. all_append (λ b. b < 256) (bytes_high_first 8 p.0) (bytes_high_first 8 p.1) (high_bytes 8 p.0) (high_bytes 8 p.1)) (any ps)
-payload_bytes (value.Gone c) its = (code c, tt)
-
 in_bytes : (k : Class) (bytes : List ℕ) → AreBytes bytes → SaysBytes (value_in k bytes)
 in_bytes class.Entry bytes all = tt
 in_bytes class.Counter bytes all = tt
@@ -102,31 +60,6 @@ in_bytes class.Account bytes all = tt
 in_bytes class.Queue bytes all = tt
 in_bytes class.Table bytes all = tt
 in_bytes class.Gone bytes all = tt
-
-pub text_bytes : (v : Value) → ValueTextInForm v → SaysBytes v
-text_bytes (value.Register bytes) form = form.1
-text_bytes v form = tt
-
-one_bytes : (b : Bool) (v w : Value) → SaysBytes v → SaysBytes w → SaysBytes (if b then v else w)
-one_bytes true v w a b = a
-one_bytes false v w a b = b
-
-after_bytes : (o : Op) (v : Value) → OpTextInForm o → SaysBytes v → SaysBytes (value_after o v)
-after_bytes (op.Create w) (value.Gone c) fits its = one_bytes (is_value_of c w) w (value.Gone c) (text_bytes w fits.0) tt
-after_bytes op.Destroy (value.Gone c) fits its = tt
-after_bytes op.Destroy _ fits its = tt
-after_bytes (op.Add n) (value.Counter m) fits its =
-    one_bytes (nat_lt (m + n) 18446744073709551616) (value.Counter (m + n)) (value.Counter m) tt tt
-after_bytes (op.Set n) (value.Counter m) fits its = tt
-after_bytes (op.Put new) (value.Register bytes) fits its = fits.1
-after_bytes (op.Deposit n) (value.Account m) fits its =
-    one_bytes (nat_lt (m + n) 18446744073709551616) (value.Account (m + n)) (value.Account m) tt tt
-after_bytes (op.Withdraw n) (value.Account m) fits its = one_bytes (nat_lt m n) (value.Account m) (value.Account (m - n)) tt tt
-after_bytes (op.Push n) (value.Queue ns) fits its = one_bytes (nat_lt (length ns) 32) (value.Queue (ns ++ n ∷ [])) (value.Queue ns) tt tt
-after_bytes op.Pop (value.Queue ns) fits its = tt
-after_bytes (op.PutPair k x) (value.Table ps) fits its = one_bytes (is_full_for k ps) (value.Table ps) (value.Table (put_pair k x ps)) tt tt
-after_bytes (op.Remove k) (value.Table ps) fits its = tt
-after_bytes _ _ fits its = its
 
 -- ---- answers
 
@@ -170,11 +103,6 @@ answer_says (op.Remove k) (value.Table ps) form its = at_fits k ps form.2
 answer_says o v form its = tt
 
 -- ---- copies
-
--- the format in which states are written holds every value
-pub two_holds : (v : Value) → ValueInForm v → FormatHolds format.Two v
-two_holds (value.Register bytes) form = form
-two_holds v form = tt
 
 module _ (A : Type 0) where
   -- a copy's values are in form

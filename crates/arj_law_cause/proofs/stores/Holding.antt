@@ -16,7 +16,7 @@ use Words.{inl, inr, ⊎_elim, arith, is_some, unwrap_or, In, Header, Label, Lin
 use Words.{held_at, in_to, is_prepared}
 use Words.{◌&&◌, cond, eq-eqb, name, number_tells, object, see, uid_number, writes, Wrote}
 use Words.body
-use Rattle.arj_journal.specs.ScriptForm.{HeaderInForm}
+use Rattle.arj_promise.specs.Runs.{HeaderFits}
 use Rattle.arj_law_runs.proofs.Terms.{Act, act_in, acts}
 use Rattle.arj_law_runs.specs.calls.Reached.{IsReached}
 use Rattle.arj_law_runs.specs.journal.Book.{book, is_decided, is_top, new_book}
@@ -43,7 +43,7 @@ use Rattle.arj_law_cause.proofs.stores.Moments.{AreCalm}
 use Rattle.arj_law_cause.proofs.stores.Newest as newest
 use Rattle.arj_law_cause.proofs.stores.Saying as saying
 
-module _ (hd : Header) (form : HeaderInForm hd) (S : Seen) (r : Reached hd S) (early : IsEarly S.lines) where
+module _ (hd : Header) (form : HeaderFits hd) (S : Seen) (r : Reached hd S) (early : IsEarly S.lines) where
   abbrev w : World
   w = world_at hd S (world_of hd S r)
 
@@ -220,7 +220,7 @@ module _ (hd : Header) (form : HeaderInForm hd) (S : Seen) (r : Reached hd S) (e
 
 -- Where a top was said to commit last, each store that is listed for an object of a surviving write of it is there, and has prepared it,
 -- unless it held so late a version before.
-module _ (hd : Header) (form : HeaderInForm hd) (S : Seen) (r : Reached hd S) (early : IsEarly S.lines) (before calm : List Line)
+module _ (hd : Header) (form : HeaderFits hd) (S : Seen) (r : Reached hd S) (early : IsEarly S.lines) (before calm : List Line)
     (line : Line) (l : Label) (is : line.body ≡ body.Committed l) (quiet : AreCalm calm) (lines : S.lines ≡ before ++ line ∷ calm)
     (a : Act) (named : act_in (acts before) (name l) ≡ Some a) (undone : is_decided (book before) a.uid ≡ false)
     (kind : is_top a.kind ≡ true) (c : Call) (survives : In c (surviving before a.id)) (writing : writes c.op ≡ true) where

@@ -10,7 +10,6 @@ use Words.{held_at, is_serial, is_some, journal_by, name, object, world_from}
 use Words.body
 use Words.kind
 use Words.role
-use Rattle.arj_journal.specs.ScriptForm.{HeaderInForm}
 use Rattle.arj_law_parts.specs.moves.Moments.{no_history}
 use Rattle.arj_law_parts.specs.moves.Seen.{is_quiet_line}
 use Rattle.arj_law_runs.proofs.follow.Along.{event_of}
@@ -33,7 +32,7 @@ use Rattle.arj_model.specs.Last.{count_tops, listed, object_line, writes_of}
 use Rattle.arj_model.specs.Past.{Along, Asked as AskedOf, Past, at_start, block, next}
 use Rattle.arj_model.specs.Refusals.{holds_of, is_committing}
 use Rattle.arj_model.specs.Serial.{writes_on}
-use Rattle.arj_promise.specs.Runs.{IsInForm, Run as RunOf, world_by}
+use Rattle.arj_promise.specs.Runs.{HeaderFits, IsInForm, Run as RunOf, world_by}
 use Rattle.arj_protocol.specs.Tree.{is_nested}
 use Rattle.arj_law_cause.proofs.confirm.{Joined.IsEarly, Joined.early_before, Runs.runs_early, Versions.held_low}
 use Rattle.arj_law_cause.proofs.kinds.Committed.{right_lines}
@@ -165,7 +164,7 @@ all_true : {A : Type 0} (f : A → Bool) (xs : List A) → ((x : A) → In x xs 
 all_true f [] each = refl
 all_true f (x ∷ xs) each = λ i. each x (inl refl) i && all_true f xs (λ y j. each y (inr j)) i
 
-module _ (A : List AskedOf) (hd : Header) (form : HeaderInForm hd) (before : List Line) (line : Line) (rest : List Line) (l : Label)
+module _ (A : List AskedOf) (hd : Header) (form : HeaderFits hd) (before : List Line) (line : Line) (rest : List Line) (l : Label)
     (is : line.body ≡ body.Committed l) (t : IsSaidThen A hd before line rest) (early : IsEarly (before ++ line ∷ rest)) (a : Act)
     (right : AreRight new_book before) (named : act_in (acts before) (name l) ≡ Some a) (there : In a (acts before))
     (undone : is_decided (book before) a.uid ≡ false) (kind : is_top a.kind ≡ true) where
@@ -316,7 +315,7 @@ top_or_nested kind.Top plain off = refl
 top_or_nested kind.Independent plain off = refl
 top_or_nested kind.Constituent plain off = refl
 
-to_cause : (A : List AskedOf) (hd : Header) → HeaderInForm hd → (h : Here) (b : Body) → h.header ≡ hd →
+to_cause : (A : List AskedOf) (hd : Header) → HeaderFits hd → (h : Here) (b : Body) → h.header ≡ hd →
     ((n k : ℕ) → is_crash_at h.accepted n k ≡ true → is_crash_at A n k ≡ true) → is_committed b ≡ true →
     IsKnownLine A hd h.lines (record { event = h.number; body = b }) → is_under_way h b ≡ true → has_cause h b ≡ true
 to_cause A hd form h (body.Committed l) header fewer of k is =

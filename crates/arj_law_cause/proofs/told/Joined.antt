@@ -6,10 +6,9 @@ use Rattle.arj_law_parts.specs.moves.Moments.{no_history}
 use Rattle.arj_law_runs.proofs.follow.Along.{Ended, Outcome, Went, runs_along}
 use Rattle.arj_law_runs.proofs.follow.Shorts as shorts
 use Rattle.arj_law_runs.specs.follow.Frames.{run_events}
-use Rattle.arj_journal.specs.ScriptForm.{HeaderInForm}
 use Rattle.arj_model.specs.Follows.{Runs, Step, is_limited}
 use Rattle.arj_model.specs.Past.{Along, Past, at_start, block, next}
-use Rattle.arj_promise.specs.Runs.{IsInForm, IsStoppedInForm, Run}
+use Rattle.arj_promise.specs.Runs.{HeaderFits, IsInForm, IsStoppedInForm, Run}
 use Rattle.arj_promise.specs.Starts.{IsFormed}
 use Rattle.arj_start.specs.Start.{Start}
 use Rattle.arj_law_cause.proofs.follow.lines.Events as lines
@@ -33,7 +32,7 @@ use Rattle.arj_law_cause.specs.waits.lost.Lost.{LostStep}
 use Rattle.arj_law_cause.specs.waits.lowest.Refusals.{RefusalsStep}
 use Rattle.arj_law_cause.specs.waits.replies.Ends.{RepliesStep}
 
-module _ (hd : Header) (form : HeaderInForm hd) where
+module _ (hd : Header) (form : HeaderFits hd) where
   -- ---- two laws, and two more
 
   abbrev Writes : Past → World → Type 0

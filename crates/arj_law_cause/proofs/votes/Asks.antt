@@ -14,7 +14,7 @@ use Words.{acts as acts_of}
 use Words.ask
 use Words.body
 use Words.list as members
-use Rattle.arj_journal.specs.ScriptForm.{HeaderInForm}
+use Rattle.arj_promise.specs.Runs.{HeaderFits}
 use Rattle.arj_law_promise.proofs.Terms
 use Terms.{AllSo, AreOnce, HasObject, IsNumbered, IsSentBy, IsUsedIn, KeepsAsked, IsGood, IsKept, UsesOf, Up, Walks, up, given, said}
 use Terms.{halted, posted}
@@ -151,7 +151,7 @@ prepares_by c to h ss s = by s.doing.now refl
     by (Calling z) now = absurd (step z.x z.goal z.at (let f = s.step z now in f.same))
     by (Committing m) now = machine m now (let f = s.commit m now in f.same)
 
-module _ (hd : Header) (form : HeaderInForm hd) (k : ℕ) (d : Disk) (v : Parts) (N : Seen) (r : Reached hd (up k d v N)) where
+module _ (hd : Header) (form : HeaderFits hd) (k : ℕ) (d : Disk) (v : Parts) (N : Seen) (r : Reached hd (up k d v N)) where
   abbrev M : Seen
   M = up k d v N
 
@@ -383,7 +383,7 @@ abbrev AreOrNew : Header → Parts → List Effect → Seen → Type 0
 AreOrNew hd v es M = (p : Post) → seen.In p M.sent → PostKnown hd M.lines p
     ⊎ (((h : Head) (a : Ask) → asks p.message ≡ Some (h, a) → IsSentBy v.coord p.to h a) × IsFilled (asks p.message) × AreIdle es)
 
-module _ (hd : Header) (form : HeaderInForm hd) where
+module _ (hd : Header) (form : HeaderFits hd) where
   walk : (e k : ℕ) (v : Parts) (outs : List Effect) (d : Disk) (M : Seen) → AllSo v.coord outs → AreFilled outs → Late outs →
       AreOrNew hd v outs M → Walks (Reached hd) e k outs (Up (Reached hd) k v) d M →
       Walks (AsksAreChanged hd) e k outs (Up (AsksAreChanged hd) k v) d M

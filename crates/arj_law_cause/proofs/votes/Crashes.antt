@@ -7,7 +7,6 @@ use Words.{first_reason, reasons, Body, Event, Header, Line, Move, Uid, World, m
 use Words.body
 use Words.role
 use Rattle.std.specs.Prelude.{drop}
-use Rattle.arj_journal.specs.ScriptForm.{HeaderInForm}
 use Rattle.arj_law_parts.specs.moves.Moments.{History, Moment}
 use Rattle.arj_law_parts.specs.moves.With.{past_event, past_moves}
 use Rattle.arj_law_runs.proofs.follow.Along.{Ended, Outcome, Went, event_of}
@@ -18,7 +17,7 @@ use Rattle.arj_model.specs.CausePends.{called_at, frame_is, halts_preparing, is_
 use Rattle.arj_model.specs.CausePends.{pends_step}
 use Rattle.arj_model.specs.CauseSpans.{holds_in}
 use Rattle.arj_model.specs.Past.{Asked as AskedOf, Past, next}
-use Rattle.arj_promise.specs.Runs.{IsStoppedInForm}
+use Rattle.arj_promise.specs.Runs.{HeaderFits, IsStoppedInForm}
 use Rattle.arj_law_cause.proofs.rows.{Running.Beside, Running.StandsSo, Running.move_so, Whole.next_crash}
 
 -- ---- events by number
@@ -185,7 +184,7 @@ over_moved m w is =
     (first_reason (reasons (event_of m) v))) in
     ap (λ (x : World). x.over) same ∙ is
 
-module _ (A : List AskedOf) (hd : Header) (form : HeaderInForm hd) (P : Moment → Type 0) (I : List Line → ℕ → Moment → Type 0)
+module _ (A : List AskedOf) (hd : Header) (form : HeaderFits hd) (P : Moment → Type 0) (I : List Line → ℕ → Moment → Type 0)
     (beside : Beside A hd P I) where
   -- behind a move and more of them
   abbrev Ahead : List Move → Move → History → World → Type 0

@@ -13,7 +13,7 @@ use Words.body
 use Words.frame
 use Words.prepared
 use Words.role
-use Rattle.arj_journal.specs.ScriptForm.{HeaderInForm}
+use Rattle.arj_promise.specs.Runs.{HeaderFits}
 use Rattle.arj_law_lock_view.proofs.Terms.{same_number, some_is}
 use Rattle.arj_law_lock_view.proofs.facts.Requests.{requests_keep}
 use Rattle.arj_law_lock_view.specs.facts.Requests.{IsAskedBy, RequestsAreKnown}
@@ -56,7 +56,7 @@ doubts_so A hd a before = says_doubt A hd (let z = a in z.from) (let z = a in z.
 
 -- ---- where the store serves it
 
-module _ (A : List AskedOf) (hd : Header) (form : HeaderInForm hd) (before : List Line) (event : ℕ)
+module _ (A : List AskedOf) (hd : Header) (form : HeaderFits hd) (before : List Line) (event : ℕ)
     (early : (j : ℕ) → (event == up_of j before) ≡ false) (k : ℕ) (d : Disk) (t v : Parts) (from : ℕ) (m : Message) (h : Head)
     (states : List ObjectState) (r : Reply) (front : List Effect)
     (M : Moment) (known : Wide (Reached hd) (up k d t M)) (there : seen.In (record { from = from; to = k; message = m }) M.seen.sent)
@@ -128,7 +128,7 @@ module _ (A : List AskedOf) (hd : Header) (form : HeaderInForm hd) (before : Lis
             subst (λ z. rows.says_of A hd k h (ask.Prepare states) z (lines_behind M.past.number front M.seen.lines)) same so,
           )
 
-pub tells_doubts : (A : List AskedOf) (hd : Header) → HeaderInForm hd → (before : List Line) (event : ℕ) →
+pub tells_doubts : (A : List AskedOf) (hd : Header) → HeaderFits hd → (before : List Line) (event : ℕ) →
     ((j : ℕ) → (event == up_of j before) ≡ false) →
     Tells (λ M. Tables hd before event M × Watching A hd M) (doubts_so A hd)
 tells_doubts A hd form before event early k d t v from m h (ask.Prepare states) r front M known there other meant asking new is =

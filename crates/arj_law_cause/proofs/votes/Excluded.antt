@@ -13,7 +13,6 @@ use Words.{acts_own, again_own, all_both, is_serial, tolds_again_own, AreAll, is
 use Words.body
 use Words.calls
 use Words.commit
-use Rattle.arj_journal.specs.ScriptForm.{HeaderInForm}
 use Rattle.arj_law_disk_view.proofs.Terms.{or_left, or_right}
 use Rattle.arj_law_lock_view.proofs.Terms.{Up, Walks, given, posted, said, up, walks_both}
 use Rattle.arj_law_parts.proofs.moves.Moving.{moves_asked}
@@ -37,7 +36,7 @@ use Rattle.arj_model.specs.Calls.{committings}
 use Rattle.arj_model.specs.CausePends.{has_written}
 use Rattle.arj_model.specs.Last.{is_among, joins_of}
 use Rattle.arj_model.specs.Refusals.{holds_of, is_committing, was_called}
-use Rattle.arj_promise.specs.Runs.{IsInForm, Run as RunOf}
+use Rattle.arj_promise.specs.Runs.{HeaderFits, IsInForm, Run as RunOf}
 use Rattle.arj_law_cause.proofs.confirm.Called.{is_called}
 use Rattle.arj_law_cause.proofs.confirm.{Joined.IsEarly, Joined.early_before, Labels.right_rest, Reached.Reached, Reached.reached_has}
 use Rattle.arj_law_cause.proofs.confirm.{Reached.reached_kept, Runs.runs_early, Spans.right_front}
@@ -190,7 +189,7 @@ walk e k v (Send to m ∷ es) d M so on h = λ more quiet. walk e k v es d (said
 
 -- ---- at a coordinator
 
-module _ (hd : Header) (form : HeaderInForm hd) (k : ℕ) (d : Disk) (t : Parts) (M : Seen) (r : Reached hd (up k d t M)) where
+module _ (hd : Header) (form : HeaderFits hd) (k : ℕ) (d : Disk) (t : Parts) (M : Seen) (r : Reached hd (up k d t M)) where
   here : (up k d t M).nodes k ≡ Some (record { number = k; disk = d; live = Some t })
   here = λ i. cond (same_number k i) (Some (record { number = k; disk = d; live = Some t })) (M.nodes k)
 
@@ -252,7 +251,7 @@ module _ (hd : Header) (form : HeaderInForm hd) (k : ℕ) (d : Disk) (t : Parts)
 
 -- ---- in every run
 
-module _ (hd : Header) (form : HeaderInForm hd) where
+module _ (hd : Header) (form : HeaderFits hd) where
   beside : (e k : ℕ) (v : Parts) (outs : List Effect) (d : Disk) (M : Seen) → AreMarked M.lines outs → saying.All goes_on outs →
       LinesMarked M → Walks (Reached hd) e k outs (Up (Reached hd) k v) d M →
       Walks (λ N. Reached hd N × LinesMarked N) e k outs (Up (λ N. Reached hd N × LinesMarked N) k v) d M

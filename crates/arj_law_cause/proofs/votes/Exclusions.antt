@@ -10,7 +10,6 @@ use Words.{map, name, numbered, uid_eq, journal_by, Start}
 use Words.body
 use Words.frame
 use Rattle.std.specs.Prelude.{drop}
-use Rattle.arj_journal.specs.ScriptForm.{HeaderInForm}
 use Rattle.arj_journal.specs.declared.header.ObjectLine.{ObjectLine}
 use Rattle.arj_law_runs.proofs.journal.{Books.book_more, Closed.one_act, Models.act_there, Models.in_later, Models.its_acts}
 use Rattle.arj_law_runs.proofs.journal.{Models.its_sound, Models.named_in, Models.tells, Books.sane_lines, Books.sane_new, Owners.acts_more}
@@ -30,7 +29,7 @@ use Rattle.arj_model.specs.Caused.{has_cause}
 use Rattle.arj_model.specs.Last.{is_among, joins_of, object_line}
 use Rattle.arj_model.specs.Past.{Along, Asked as AskedOf, Past, at_start, block, next}
 use Rattle.arj_model.specs.Refusals.{holds_of, is_committing, was_called}
-use Rattle.arj_promise.specs.Runs.{world_by}
+use Rattle.arj_promise.specs.Runs.{HeaderFits, world_by}
 use Rattle.arj_law_cause.proofs.confirm.{Called.called_back, Called.is_called, Joined.early_before, Labels.right_rest, Spans.commits_at}
 use Rattle.arj_law_cause.proofs.confirm.{Spans.place, Spans.right_front}
 use Rattle.arj_law_cause.proofs.kinds.{Lines.more_lines, Over.over_later}
@@ -141,7 +140,7 @@ module _ (hd : Header) (h : Here) (header : h.header ≡ hd) (l : Label) (x n : 
 
   -- ---- a store that answered with a doubt
 
-  module _ (A : List AskedOf) (w : WasDoubted A hd h.lines (let b = a in b.uid) n) (form : HeaderInForm hd)
+  module _ (A : List AskedOf) (w : WasDoubted A hd h.lines (let b = a in b.uid) n) (form : HeaderFits hd)
       (fewer : (m k : ℕ) → is_crash_at h.accepted m k ≡ true → is_crash_at A m k ≡ true) where
     front_right : AreRight new_book w.before
     front_right = right_front w.before w.after (subst (AreRight new_book) w.are k.right)
@@ -438,7 +437,7 @@ next_low p e bodies all = saying_both p.lines (block (p.count + 1) bodies) (more
     new [] = refl
     new (b ∷ bs) = λ i. itself (p.count + 1) i && new bs i
 
-module _ (A : List AskedOf) (hd : Header) (form : HeaderInForm hd) (whole : List Line) (each : (before : List Line) (line : Line)
+module _ (A : List AskedOf) (hd : Header) (form : HeaderFits hd) (whole : List Line) (each : (before : List Line) (line : Line)
     (behind : List Line) → whole ≡ before ++ line ∷ behind → IsKnown A hd before line) where
   module _ (p : Past) (low : AreLow p) (bodies : List Body) (step : (m : Label) (j : ℕ) → In (body.GaveUp m j) bodies →
       IsGivenSo p.lines m j bodies) (more : List Line) where

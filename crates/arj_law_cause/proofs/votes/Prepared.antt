@@ -12,7 +12,6 @@ use Words.ask
 use Words.body
 use Words.input
 use Words.role
-use Rattle.arj_journal.specs.ScriptForm.{HeaderInForm}
 use Rattle.arj_law_lock_view.proofs.Terms.{Up, Walks, given, posted, said, walks_both}
 use Rattle.arj_law_parts.proofs.moves.Moving.{moves_asked}
 use Rattle.arj_law_parts.specs.moves.Keeps.{KeepsAsked}
@@ -29,7 +28,7 @@ use Rattle.arj_model.specs.CausePends.{changes, changes_any}
 use Rattle.arj_model.specs.CauseSpans.{Here, act_by, holds_in}
 use Rattle.arj_model.specs.Caused.{has_cause}
 use Rattle.arj_model.specs.Refusals.{was_called}
-use Rattle.arj_promise.specs.Runs.{Run}
+use Rattle.arj_promise.specs.Runs.{HeaderFits, Run}
 use Rattle.arj_law_cause.proofs.confirm.{Joined.IsEarly, Joined.early_before, Reached.Reached, Runs.runs_early}
 use Rattle.arj_law_cause.proofs.kinds.Committed.{act_found, right_lines}
 use Rattle.arj_law_cause.proofs.kinds.Lines.{tested_row}
@@ -177,7 +176,7 @@ message_says hd k d t v from m outs M asks_are there is =
 
 -- ---- in every run
 
-module _ (hd : Header) (form : HeaderInForm hd) where
+module _ (hd : Header) (form : HeaderFits hd) where
   abbrev Base : Seen → Type 0
   Base M = Reached hd M × AsksAreChanged hd M
 

@@ -16,7 +16,6 @@ use Words.calls
 use Words.commit
 use Words.frame
 use Words.input
-use Rattle.arj_journal.specs.ScriptForm.{HeaderInForm}
 use Rattle.arj_law_lock_view.proofs.Terms.{same_number}
 use Rattle.arj_law_lock_view.proofs.moments.Answers.{answers_step, first_made, made_closes, made_later, made_opens}
 use Rattle.arj_law_lock_view.specs.moments.Made.{AnswersAreMade, BeginsWith}
@@ -38,7 +37,7 @@ use Rattle.arj_law_serial.specs.whole.Called.{SayOf}
 use Rattle.arj_model.specs.Actions.{Act, act_in}
 use Rattle.arj_model.specs.CauseAnswers.{is_giveup}
 use Rattle.arj_model.specs.Past.{Asked as AskedOf, at_start}
-use Rattle.arj_promise.specs.Runs.{IsInForm, Run as RunOf}
+use Rattle.arj_promise.specs.Runs.{HeaderFits, IsInForm, Run as RunOf}
 use Rattle.arj_law_cause.proofs.confirm.{Labels.right_rest, Reached.Reached, Spans.right_front}
 use Rattle.arj_law_cause.proofs.rows.Running.{Beside, InEvent, Inner as Watching, event_step, first_so, inner_steps as watching_steps}
 use Rattle.arj_law_cause.proofs.rows.Running.{steps_both, tables_step}
@@ -489,7 +488,7 @@ module _ (A : List AskedOf) (hd : Header) (k : ℕ) (d : Disk) (t : Parts) (M : 
 
 -- ---- in every run
 
-module _ (A : List AskedOf) (hd : Header) (form : HeaderInForm hd) where
+module _ (A : List AskedOf) (hd : Header) (form : HeaderFits hd) where
   -- between events, and inside of one
   abbrev Between : Moment → Type 0
   Between M = (AnswersAreMade (doubts_so A hd) M × DoubtsAreSent M) × LinesReasoned A hd M

@@ -3,7 +3,7 @@ use Rattle.arj_law_parts.proofs.Words
 use Words.{⊤, cond, ◌≡◌, ◌≤◌, ◌∙◌, ℕ, true, List, Some, refl, sym, ap, subst, is_some, Header, ObjectState, Uid, Disk, Parts, Seen}
 use Words.{Committing, Doing, Machine, Post, changed_of, doing_of, In, plan_of}
 use Rattle.arj_law_serial.proofs.Terms
-use Terms.{Act, Action, HeaderInForm, IsAlikeOf, IsSeenIn, KnowsFew, Spot, State, Values, World, acts, acts_of, paths_of}
+use Terms.{Act, Action, HeaderFits, IsAlikeOf, IsSeenIn, KnowsFew, Spot, State, Values, World, acts, acts_of, paths_of}
 use Terms.{AgreesApart, AreAlike, AreRight, AreTied, AreVotedAt, Fixed, IsTied, RequestsAreOne, SeesLocks, case_of, code_of, first_values}
 use Terms.{OpsFit, its_acts, new_book, object_line, side_at, up}
 use Rattle.arj_law_lock.specs.machine.State.{Merged}
@@ -30,7 +30,7 @@ record HasMachine (hd : Header) (x : ℕ) (S : Seen) : Type 0 where
   locks : HasLocks (first_values hd) x (Whole x) (λ f S M. ⊤) machine (with_sent sent S)
   few : KnowsFew (with_sent sent S)
 
-machine_there : (hd : Header) (x : ℕ) → HeaderInForm hd → is_some (object_line hd x) ≡ true → (S : Seen) → Reached hd S → IsEarly S.lines →
+machine_there : (hd : Header) (x : ℕ) → HeaderFits hd → is_some (object_line hd x) ≡ true → (S : Seen) → Reached hd S → IsEarly S.lines →
     HasMachine hd x S
 machine_there hd x form there S r early = record {
   sent = holds.sent;
@@ -52,7 +52,7 @@ machine_there hd x form there S r early = record {
 
 -- ---- a commit under way
 
-module _ (hd : Header) (x : ℕ) (form : HeaderInForm hd) (there : is_some (object_line hd x) ≡ true) (k : ℕ) (d : Disk) (v : Parts)
+module _ (hd : Header) (x : ℕ) (form : HeaderFits hd) (there : is_some (object_line hd x) ≡ true) (k : ℕ) (d : Disk) (v : Parts)
     (N : Seen)
     (reached : Reached hd (up k d v N)) (early : IsEarly N.lines) where
   its : HasMachine hd x (up k d v N)

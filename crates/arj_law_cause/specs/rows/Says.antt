@@ -4,7 +4,7 @@ use Rattle.std.specs.List.{list_any}
 use Rattle.arj_base.specs.Rows.{first_conflict}
 use Rattle.arj_base.specs.Uid.{entry, object, uid_eq}
 use Rattle.arj_class.specs.Table.{op_mode}
-use Rattle.arj_journal.specs.ScriptForm.{HeaderInForm}
+use Rattle.arj_promise.specs.Runs.{HeaderFits}
 use Rattle.arj_model.specs.Actions.{Act, acts}
 use Rattle.arj_model.specs.CauseAnswers.{has_lock, meets}
 use Rattle.arj_model.specs.CausePends.{changes, may_store, pends}
@@ -64,11 +64,11 @@ says_of accepted hd n h (ask.Bind x include avoid) (Reply.Bound (bound.Make b se
 says_of accepted hd n h (ask.Bind x include avoid) (Reply.Bound (bound.Write g stores)) before =
     (has_lock 1 (top_of h.path) (entry x) mode.Write before ≡ true) × (meets_none 1 (top_path h.path) (entry x) mode.Write before ≡ true)
 says_of accepted hd n h (ask.Load x) (Reply.Loaded (loaded.InDoubt u)) before =
-    (pends accepted n u before ≡ true) × (HeaderInForm hd → may_store hd before n x ≡ true)
-    × (HeaderInForm hd → IsEarly before → has_changed before u x ≡ true)
+    (pends accepted n u before ≡ true) × (HeaderFits hd → may_store hd before n x ≡ true)
+    × (HeaderFits hd → IsEarly before → has_changed before u x ≡ true)
 says_of accepted hd n h (ask.Prepare states) (Reply.Prepared (prepared.InDoubt y u)) before =
     (uid_eq u (actor h.path) ≡ false) × (pends accepted n u before ≡ true)
-    × (HeaderInForm hd → IsEarly before → (has_changed before (actor h.path) y && has_changed before u y) ≡ true)
+    × (HeaderFits hd → IsEarly before → (has_changed before (actor h.path) y && has_changed before u y) ≡ true)
 says_of accepted hd n h a r before = ⊤
 
 -- so it is of an answer

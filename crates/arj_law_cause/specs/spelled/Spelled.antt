@@ -1,7 +1,6 @@
 -- What is sent in a run can be spelled, and what isn't shown of it where events are in no form.
 use Rattle.std.specs.Prelude.{⊤}
 use Rattle.std.specs.List.{AllByRecursion}
-use Rattle.arj_journal.specs.ScriptForm.{HeaderInForm}
 use Rattle.arj_class.specs.Forms.{OpInForm}
 use Rattle.arj_msg.specs.Sendable.{IsSendable, InvokedSends, LoadedSends, StateSends}
 use Rattle.arj_protocol.specs.Words.{Header, Message, VotedReply}
@@ -9,7 +8,7 @@ use Rattle.arj_protocol.specs.Words.message
 use Rattle.arj_protocol.specs.Words.voted
 use Rattle.arj_law_parts.specs.moves.Keeps.{Holds}
 use Rattle.arj_law_parts.specs.moves.Seen.{In}
-use Rattle.arj_promise.specs.Runs.{IsInForm, Post, Run, Seen, world_by}
+use Rattle.arj_promise.specs.Runs.{HeaderFits, IsInForm, Post, Run, Seen, world_by}
 
 -- states that are voted restore
 abbrev pub VoteRestores : VotedReply → Type 0
@@ -44,4 +43,4 @@ RunsInFormSpell = (hd : Header) (r : Run hd) → IsInForm hd r → Holds hd AreS
 
 -- in every run
 abbrev pub RunsSpell : Type 0
-RunsSpell = (hd : Header) → HeaderInForm hd → (r : Run hd) → Holds hd AreSendable (world_by hd r)
+RunsSpell = (hd : Header) → HeaderFits hd → (r : Run hd) → Holds hd AreSendable (world_by hd r)

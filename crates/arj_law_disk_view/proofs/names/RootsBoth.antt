@@ -103,8 +103,8 @@ starts_have_first hd x tops unwalked has_it serial plain idem st formed entries 
       ap (λ (q : Packed). q.writer) (sym is),
       formed.states (let o = has_it in let l = o.line in l.x),
     )
-    past g (inr i) = let p = seen.past_from x st.older g i in
-        (p.0.1.writer, ap (λ (q : Packed). q.writer) (sym p.3), (let o = seen.older_is hd st formed x tops has_it p.0 p.1 in o.past))
+    past g (inr i) = let p = seen.past_from x (seen.last_version hd st formed x tops has_it) st.older g i in
+        (p.at.1.writer, ap (λ (q : Packed). q.writer) (sym p.is), (let o = seen.older_is hd st formed x tops has_it p.at p.there in o.past))
 
 -- ---- a root of which nothing has changed
 

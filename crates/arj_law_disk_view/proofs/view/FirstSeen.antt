@@ -2,7 +2,8 @@
 use Rattle.arj_law_parts.proofs.Words
 use Words.{◌≡◌, ◌⊎◌, ◌<◌, ℕ, zero, suc, ◌+◌, ◌==◌, List, [], ◌∷◌, ◌++◌, Bool, true, false, cond, Option, Some, None, refl, sym, ◌∙◌, ap}
 use Words.{subst, inl, inr, ⊎_elim, eqb-true, map, filter, if◌then◌else◌, option_map, AllByRecursion, uid_cases, uid_eq, uid_is, uid_same}
-use Words.{in_from, Uid}
+use Words.{in_from, Uid, ◌&&◌, nat_lt, and_parts, arith, ltb-true}
+use Rattle.std.proofs.Common.{lt-ltb}
 use Words.{Header, ObjectLine, ObjectState, object, entry, Doing, doing_of, new_coord, held_at, Naming, recovered_naming, Parts, at_uid}
 use Words.{put_uid, uid_number, number_tells, Node, node_by, numbers_to, parts_in, put_states, Branch, at_place, branch_of, is_own}
 use Words.{entry_back}
@@ -18,7 +19,7 @@ use Rattle.arj_law_disk.proofs.machine.Results.{first_is_whole}
 use Rattle.arj_law_disk.specs.machine.{Laws.IsFirst, State.IsPast}
 use Rattle.arj_law_disk_view.proofs.view.Planned.{has_same}
 use Rattle.arj_law_disk_view.specs.view.Formats.{IsLine}
-use Rattle.arj_promise.specs.Starts.{AreOne, IsOlder}
+use Rattle.arj_promise.specs.Starts.{AreOne, IsBefore, IsOlder}
 use Rattle.arj_law_disk_view.proofs.view.Keys as keys
 
 -- ---- states that are put in their places
@@ -131,34 +132,55 @@ as_line o [] i = absurd i
 as_line o (p ∷ ps) (inl same) = inl same
 as_line o (p ∷ ps) (inr more) = inr (as_line o ps more)
 
--- the older states of object x, as the machine has them
-abbrev pub past_of : ℕ → List (ℕ × ObjectState) → List Packed
-past_of x [] = []
-past_of x (p ∷ ps) = if uid_eq p.1.uid (object x) then packed p.1 ∷ past_of x ps else past_of x ps
+-- it is a state of object x, of a version below this one
+abbrev is_past : ℕ → ℕ → ObjectState → Bool
+is_past x last s = uid_eq s.uid (object x) && nat_lt s.version last
+
+-- the states of object x of versions below this one, as the machine has them
+abbrev pub past_of : ℕ → ℕ → List (ℕ × ObjectState) → List Packed
+past_of x last [] = []
+past_of x last (p ∷ ps) = if is_past x last p.1 then packed p.1 ∷ past_of x last ps else past_of x last ps
+
+-- what is one of them is so, and stands in the list of all
+pub record IsPastOf (x last : ℕ) (ps : List (ℕ × ObjectState)) (g : Packed) : Type 0 where
+  pub at : ℕ × ObjectState
+  pub there : In at ps
+  pub of : at.1.uid ≡ object x
+  pub below : at.1.version < last
+  pub is : packed at.1 ≡ g
 
 -- each is one of them
-pub past_from : (x : ℕ) (ps : List (ℕ × ObjectState)) (g : Packed) → In g (past_of x ps) →
-    (p : ℕ × ObjectState) × In p ps × (p.1.uid ≡ object x) × (packed p.1 ≡ g)
-past_from x [] g i = absurd i
-past_from x (p ∷ ps) g i = by (uid_eq p.1.uid (object x)) refl i (λ more. let r = past_from x ps g more in (r.0, inr r.1, r.2, r.3))
+pub past_from : (x last : ℕ) (ps : List (ℕ × ObjectState)) (g : Packed) → In g (past_of x last ps) → IsPastOf x last ps g
+past_from x last [] g i = absurd i
+past_from x last (p ∷ ps) g i = by (is_past x last p.1) refl i
+    (λ more. let r = past_from x last ps g more in record { at = r.at; there = inr r.there; of = r.of; below = r.below; is = r.is })
   where
-    by : (b : Bool) → uid_eq p.1.uid (object x) ≡ b → In g (if b then packed p.1 ∷ past_of x ps else past_of x ps) →
-        (In g (past_of x ps) → (q : ℕ × ObjectState) × In q (p ∷ ps) × (q.1.uid ≡ object x) × (packed q.1 ≡ g)) →
-        (q : ℕ × ObjectState) × In q (p ∷ ps) × (q.1.uid ≡ object x) × (packed q.1 ≡ g)
-    by true e (inl same) ih = (p, inl refl, uid_is p.1.uid (object x) e, same)
+    by : (b : Bool) → is_past x last p.1 ≡ b → In g (if b then packed p.1 ∷ past_of x last ps else past_of x last ps) →
+        (In g (past_of x last ps) → IsPastOf x last (p ∷ ps) g) → IsPastOf x last (p ∷ ps) g
+    by true e (inl same) ih = let both = and_parts (uid_eq p.1.uid (object x)) (nat_lt p.1.version last) e in record {
+      at = p;
+      there = inl refl;
+      of = uid_is p.1.uid (object x) both.0;
+      below = ltb-true p.1.version last both.1;
+      is = same;
+    }
     by true e (inr more) ih = ih more
     by false e more ih = ih more
 
-past_in : (x : ℕ) (ps : List (ℕ × ObjectState)) (p : ℕ × ObjectState) → In p ps → p.1.uid ≡ object x → In (packed p.1) (past_of x ps)
-past_in x [] p i of = absurd i
-past_in x (q ∷ qs) p i of = by (uid_eq q.1.uid (object x)) refl i (λ more. past_in x qs p more of)
+past_in : (x last : ℕ) (ps : List (ℕ × ObjectState)) (p : ℕ × ObjectState) → In p ps → p.1.uid ≡ object x → p.1.version < last →
+    In (packed p.1) (past_of x last ps)
+past_in x last [] p i of less = absurd i
+past_in x last (q ∷ qs) p i of less = by (is_past x last q.1) refl i (λ more. past_in x last qs p more of less)
   where
-    by : (b : Bool) → uid_eq q.1.uid (object x) ≡ b → In p (q ∷ qs) → (In p qs → In (packed p.1) (past_of x qs)) →
-        In (packed p.1) (if b then packed q.1 ∷ past_of x qs else past_of x qs)
+    by : (b : Bool) → is_past x last q.1 ≡ b → In p (q ∷ qs) → (In p qs → In (packed p.1) (past_of x last qs)) →
+        In (packed p.1) (if b then packed q.1 ∷ past_of x last qs else past_of x last qs)
     by true e (inl same) ih = inl (ap (λ (r : ℕ × ObjectState). packed r.1) same)
     by true e (inr more) ih = inr (ih more)
-    by false e (inl same) ih = absurd (never (ap (λ (r : ℕ × ObjectState). uid_eq r.1.uid (object x)) same
-        ∙ ap (λ w. uid_eq w (object x)) of ∙ uid_same (object x)) e)
+    by false e (inl same) ih =
+        let is : uid_eq p.1.uid (object x) ≡ true = ap (λ w. uid_eq w (object x)) of ∙ uid_same (object x) in
+        let under : nat_lt p.1.version last ≡ true = lt-ltb p.1.version last less in
+        let both : is_past x last p.1 ≡ true = λ i. is i && under i in
+        absurd (never (ap (λ (r : ℕ × ObjectState). is_past x last r.1) same ∙ both) e)
     by false e (inr more) ih = ih more
 
 -- ---- the object
@@ -177,13 +199,16 @@ module _ (hd : Header) (st : Start) (formed : IsFormed hd st) (x : ℕ) (tops : 
   abbrev first_entry : Packed
   first_entry = let m = st.marks.entries line.x in record { version = m.version; writer = uid_number m.writer; content = line.stores }
 
+  abbrev pub last_version : ℕ
+  last_version = let m = st.marks.states line.x in m.version
+
   abbrev no_plan : Plan
   no_plan = record { writes = None; list = []; joins = []; loaded = packed (state_of line) }
 
   abbrev pub S : State
   S = record {
     first = packed (state_of line);
-    past = past_of x st.older;
+    past = past_of x last_version st.older;
     first_entry = first_entry;
     root = tops.root;
     serial = tops.is_serial;
@@ -217,30 +242,40 @@ module _ (hd : Header) (st : Start) (formed : IsFormed hd st) (x : ℕ) (tops : 
   are_one p q i j = all_stand (λ (b : ℕ × ObjectState). AreOne p.1 b.1) st.older
       (all_stand (λ (a : ℕ × ObjectState). AllByRecursion (λ (b : ℕ × ObjectState). AreOne a.1 b.1) st.older) st.older formed.one p i) q j
 
+  -- where such a state isn't the last one, it is from before it
+  older_was : (p : ℕ × ObjectState) → In p st.older → p.1.uid ≡ object x →
+      (p.1 ≡ state_of line) ⊎ IsBefore p.1 (st.marks.states line.x)
+  older_was p i of = let o = older_is p i in
+      subst (λ (l : ObjectLine). (p.1 ≡ state_of l) ⊎ IsBefore p.1 (st.marks.states l.x)) (older_line p o of) o.was
+
   past_is : IsPast S.first S.past
   past_is = record {
-    below = λ g i. let p = past_from x st.older g i in let o = older_is p.0 p.1 in
-        subst (λ (z : Packed). z.version < S.first.version) p.3 (subst (λ (l : ObjectLine). p.0.1.version < (state_of l).version)
-        (older_line p.0 o p.2) o.below);
-    version = λ g h i j same. let p = past_from x st.older g i in let q = past_from x st.older h j in
-        sym p.3 ∙ ap packed ((are_one p.0 q.0 p.1 q.1).version (p.2 ∙ sym q.2)
-        (ap (λ (z : Packed). z.version) p.3 ∙ same ∙ ap (λ (z : Packed). z.version) (sym q.3))) ∙ q.3;
+    below = λ g i. let p = past_from x last_version st.older g i in
+        subst (λ (z : Packed). z.version < S.first.version) p.is p.below;
+    version = λ g h i j same. let p = past_from x last_version st.older g i in let q = past_from x last_version st.older h j in
+        sym p.is ∙ ap packed ((are_one p.at q.at p.there q.there).version (p.of ∙ sym q.of)
+        (ap (λ (z : Packed). z.version) p.is ∙ same ∙ ap (λ (z : Packed). z.version) (sym q.is))) ∙ q.is;
     writer = writers;
   }
     where
       -- none of them is by who wrote the last state
       other : (g : Packed) → In g S.past → g.writer ≡ S.first.writer → ⊥
-      other g i same = let p = past_from x st.older g i in let o = older_is p.0 p.1 in
-          o.other (number_tells p.0.1.writer (state_of o.line).writer (ap (λ (z : Packed). z.writer) p.3 ∙ same
-          ∙ ap (λ (l : ObjectLine). uid_number (state_of l).writer) (sym (older_line p.0 o p.2))))
+      other g i same = let p = past_from x last_version st.older g i in ⊎_elim
+          (λ (last : p.at.1 ≡ state_of line). let less = p.below in
+          let is = ap (λ (s : ObjectState). s.version) last in omega (arith, less, is))
+          (λ (before : IsBefore p.at.1 (st.marks.states line.x)). before.other (number_tells p.at.1.writer (state_of line).writer
+          (ap (λ (z : Packed). z.writer) p.is ∙ same)))
+          (older_was p.at p.there p.of)
 
       writers : (g h : Packed) → In g (S.first ∷ S.past) → In h (S.first ∷ S.past) → g.writer ≡ h.writer → g ≡ h
       writers g h (inl a) (inl b) same = sym a ∙ b
       writers g h (inl a) (inr j) same = absurd (other h j (sym same ∙ ap (λ (z : Packed). z.writer) (sym a)))
       writers g h (inr i) (inl b) same = absurd (other g i (same ∙ ap (λ (z : Packed). z.writer) (sym b)))
-      writers g h (inr i) (inr j) same = let p = past_from x st.older g i in let q = past_from x st.older h j in
-          sym p.3 ∙ ap packed ((are_one p.0 q.0 p.1 q.1).writer (p.2 ∙ sym q.2) (number_tells p.0.1.writer q.0.1.writer
-          (ap (λ (z : Packed). z.writer) p.3 ∙ same ∙ ap (λ (z : Packed). z.writer) (sym q.3)))) ∙ q.3
+      writers g h (inr i) (inr j) same =
+          let p = past_from x last_version st.older g i in
+          let q = past_from x last_version st.older h j in
+          sym p.is ∙ ap packed ((are_one p.at q.at p.there q.there).writer (p.of ∙ sym q.of) (number_tells p.at.1.writer q.at.1.writer
+          (ap (λ (z : Packed). z.writer) p.is ∙ same ∙ ap (λ (z : Packed). z.writer) (sym q.is)))) ∙ q.is
 
   -- ---- what stores hold
 
@@ -285,7 +320,10 @@ module _ (hd : Header) (st : Start) (formed : IsFormed hd st) (x : ℕ) (tops : 
           let of : q.uid ≡ object x = puts_keyed (states_from s hd st) [] none_keyed (object x) q h in
           let g_is : packed q ≡ g = some_is refl e in
           ⊎_elim (λ among. ⊎_elim
-          (λ old. inr (subst (λ (z : Packed). In z S.past) g_is (past_in x st.older (s, q) old of)))
+          (λ old. ⊎_elim (λ (last : q ≡ state_of line). inl (ap packed (sym last) ∙ g_is))
+          (λ (before : IsBefore q (st.marks.states line.x)).
+          inr (subst (λ (z : Packed). In z S.past) g_is (past_in x last_version st.older (s, q) old of before.below)))
+          (older_was (s, q) old of))
           (λ (new : (q ≡ state_of line) × (order.has line.stores s ≡ true)). inl (ap packed (sym new.0) ∙ g_is))
           (from_store s q among of)) (λ (old : at_uid (object x) [] ≡ Some q). absurd (cc old))
           (puts_from (states_from s hd st) [] (object x) q h)

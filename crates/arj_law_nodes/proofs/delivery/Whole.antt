@@ -4,7 +4,7 @@ use Words.{◌≡◌, ◌&&◌, ℕ, true, false, List, [], ◌∷◌, ◌∙◌
 use Words.{frame_number, is_node, run_event, Move, moved, world_by}
 use Words.event
 use Words.frame_no
-use Rattle.arj_law_nodes.proofs.Terms.{IsWhole, HeaderInForm, Turn, all_turned, turned, AreForNodes, Delivers, IsTaken}
+use Rattle.arj_law_nodes.proofs.Terms.{IsWhole, HeaderFits, Turn, all_turned, turned, AreForNodes, Delivers, IsTaken}
 use Rattle.arj_law_nodes.proofs.delivery.Delivered.{delivery_taken, each_for_node}
 use Rattle.arj_law_parts.proofs.moves.{Happens.arms_hold, Moving.moves_asked}
 use Rattle.arj_law_parts.proofs.steps.{Spoken.event_writes, Whole.runs_whole, Whole.whole_with}
@@ -16,7 +16,7 @@ use Rattle.arj_promise.specs.{Runs.Run, Starts.fresh_is_formed}
 use Rattle.arj_world.proofs.Owns.{answers_without, runs_whole as turns_whole}
 use Rattle.arj_world.specs.Turns.{asked, with_arms}
 
-module _ (hd : Header) (form : HeaderInForm hd) where
+module _ (hd : Header) (form : HeaderFits hd) where
   abbrev Kept : World → Type 0
   Kept w = Holds hd (AreAddressed hd) w
 

@@ -17,11 +17,13 @@ use Rattle.arj_law_nodes.specs.{nodes.Promised.event_of, nodes.Readings.files_at
 use Rattle.arj_law_nodes.specs.nodes.Turns.{Came, ClosesMove, ClosesShow, HasMoved, NodesMove, RunsShow, ScriptsMove, SoFarShows, StopsShow}
 use Rattle.arj_law_nodes.specs.nodes.Turns.{as_move}
 use Rattle.arj_law_parts.proofs.moves.Moving.{more_moves}
-use Rattle.arj_law_promise.proofs.{settling.Idle.quiesce_said, statement.Keeping.quiet_end, statement.Keeping.runs_keep}
+use Rattle.arj_law_promise.proofs.{settling.Idle.quiesce_said, statement.Keeping.firsts_held, statement.Keeping.quiet_end}
+use Rattle.arj_law_promise.proofs.{statement.Keeping.runs_keep}
 use Rattle.arj_law_runs.proofs.resting.GiveUps.{over_before}
 use Rattle.arj_loop.specs.{Input.Arrived, Input.script_of, Replayed.EndsSo, declared.ending.End.End, declared.machine.Machine.Ghosts}
 use Rattle.arj_loop.specs.Running.{MachineRuns, Stage, Why, events_run, last_body, last_lines}
 use Rattle.arj_nodes.specs.{AllNodes.world_after, AsMachine.all_nodes, declared.all_nodes.AllNodes.AllNodes}
+use Rattle.arj_promise.specs.Runs.{header_fits}
 use Rattle.arj_start.specs.Start.{none_written}
 use Rattle.arj_promise.specs.{Promise.KeepsThePromise, Runs.from_format}
 use Rattle.arj_script.specs.declared.limits.TheConstants.{SCRIPT_LINES}
@@ -86,7 +88,8 @@ nodes_move {C} {D} c d t over now form r =
       moves = map as_move r.turns;
       are = same_events r.turns ∙ r.are;
       form = record {
-        header = form.header;
+        header = header_fits t.header form.header;
+        held = firsts_held t.header none_written form.header;
         events = in_form r.turns (subst (AllByRecursion EventInForm) (sym r.are) form.events);
         stops = stopped r.turns r.works;
         few = few (length (map as_move r.turns)) (length r.turns) (length (map (λ (s : Turn). s.event) r.turns)) (length t.events)

@@ -17,7 +17,7 @@ use Words.loaded
 use Words.input
 use Words.words
 use Rattle.arj_law_promise.proofs.Terms
-use Terms.{In, up, node_here, HasObject, HeaderInForm, first_values, Holds, moves_asked}
+use Terms.{In, up, node_here, HasObject, HeaderFits, first_values, Holds, moves_asked}
 use Rattle.arj_law_disk_view.specs.running.Entries.{KnowsEntries}
 use Rattle.arj_law_parts.proofs.moves.Happens.{arms_hold, deliver_holds, steps_hold}
 use Rattle.arj_law_parts.specs.moves.Keeps.{IsSent}
@@ -57,7 +57,7 @@ elsewhere true rest is = absurd (cc is)
 
 -- ---- what comes
 
-module _ (hd : Header) (form : HeaderInForm hd) (k : ℕ) (d : Disk) (t : Parts) (M : Seen) (known : MeantAreKnown hd (up k d t M)) (p : Post)
+module _ (hd : Header) (form : HeaderFits hd) (k : ℕ) (d : Disk) (t : Parts) (M : Seen) (known : MeantAreKnown hd (up k d t M)) (p : Post)
     (there : In p M.sent) (to : p.to ≡ k) where
   abbrev here : Node
   here = record { number = k; disk = d; live = Some t }
@@ -270,7 +270,7 @@ handled_says k n (Void outs) b is =
 handled_says k n (Took v outs) b is =
     subst (SaysVoidWhere k n (handled_step k n (Took v outs))) (sym is) (record { rest = (whole n.number v outs n.disk).outs; outs = refl })
 
-module _ (hd : Header) (form : HeaderInForm hd) where
+module _ (hd : Header) (form : HeaderFits hd) where
   frames_void : (w : World) → Holds hd (MeantAreKnown hd) w → FramesAreVoidExactly hd w
   frames_void w h k f n there found = by n.live refl f.message refl
     where

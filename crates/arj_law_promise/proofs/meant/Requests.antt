@@ -8,7 +8,7 @@ use Words.{Calling, Committing, Doing, Idle, Now, doing_of, kept_of, root_at, Di
 use Words.{class_at, cons_option, filter_map, lacks_op}
 use Words.ask
 use Rattle.arj_law_promise.proofs.Terms
-use Terms.{IsNumbered, AreOnce, IsUp, up, it, node_here, HasObject, WaitsAreKnown, UsesOf, kind_of, stored, NowIsSo, OwnOf, HeaderInForm}
+use Terms.{IsNumbered, AreOnce, IsUp, up, it, node_here, HasObject, WaitsAreKnown, UsesOf, kind_of, stored, NowIsSo, OwnOf, HeaderFits}
 use Terms.{IsUsedIn, IsSentBy, all_each, all_filter}
 use Rattle.arj_law_disk_view.specs.running.{States.AtIsSo}
 use Rattle.arj_law_parts.specs.parts.{AskedObjects.IsNowOf}
@@ -36,7 +36,7 @@ fits_bare hd (ask.Confirm grants ex inc) f = f
 
 -- ---- what a coordinator sends
 
-module _ (hd : Header) (form : HeaderInForm hd) (k : ℕ) (c : Disk) (v : Parts) (N : Seen) (known : WaitsAreKnown hd (up k c v N)) where
+module _ (hd : Header) (form : HeaderFits hd) (k : ℕ) (c : Disk) (v : Parts) (N : Seen) (known : WaitsAreKnown hd (up k c v N)) where
   abbrev here : Node
   here = record { number = k; disk = c; live = Some v }
 

@@ -7,7 +7,6 @@ use Words.ending
 use Rattle.arj_law_promise.proofs.Terms.{AreAddressed, IsNode, kept, moves_asked}
 use Rattle.arj_base.specs.Uid.{UidFits}
 use Rattle.arj_journal.specs.LineForm.{BodyInForm, LineInForm}
-use Rattle.arj_journal.specs.ScriptForm.{HeaderInForm}
 use Rattle.arj_law_promise.proofs.rooms.Incs.{incs_next}
 use Rattle.arj_law_promise.specs.rooms.Actions.{FreshHasIncs, HasIncs, RunsSayActions, is_of_action}
 use Rattle.arj_law_promise.specs.rooms.Incs.{last_inc}
@@ -23,7 +22,7 @@ use Rattle.arj_law_runs.specs.forms.World.{IsSaidInForm}
 use Rattle.arj_law_runs.specs.journal.Book.{Book, book_from, is_decided, new_book, turned}
 use Rattle.arj_law_runs.specs.journal.Right.{AreRight, Right, has_act}
 use Rattle.arj_model.specs.Actions.{Act, acts}
-use Rattle.arj_promise.specs.Runs.{IsInForm, Run}
+use Rattle.arj_promise.specs.Runs.{HeaderFits, IsInForm, Run}
 
 -- ---- Uids
 
@@ -75,7 +74,7 @@ decided_fits B u sane all is = by (is_on B.committed u) (is_on B.found u) (sane.
     by true b one two is = began_fits B.acts u all (one refl)
     by false b one two is = began_fits B.acts u all (two is)
 
-module _ (hd : Header) (form : HeaderInForm hd) where
+module _ (hd : Header) (form : HeaderFits hd) where
   body_form : (B : Book) (b : Body) → Sane B → Right B b → AllByRecursion ActFits (turned B b).acts → LabelsInForm b →
       SaysOf (IsNode hd) b → is_of_action b ≡ true → BodyInForm b
   body_form B (body.Began l k u p) sane right all labels node is = (labels.0, all.0, labels.1)

@@ -6,7 +6,6 @@ use Words.{run_unless, settle, tick_all, Move, all_moved, moved, world_by, Seen,
 use Words.{◌⊎◌, None, AllByRecursion, and_parts, lowest_from, AreGivenUp, AreUp, NobodyWaits}
 use Words.body
 use Words.event
-use Rattle.arj_journal.specs.ScriptForm.{HeaderInForm}
 use Rattle.arj_law_promise.proofs.Terms
 use Terms.{IsGood, Holds, KeepsAsked, move_asked, moves_asked, AreAddressed, IsNode, kept, SettlesAll, over_before, asked_both, keeps_good}
 use Terms.{KnowsPrepared}
@@ -14,7 +13,7 @@ use Rattle.arj_law_parts.proofs.moves.Moving.{moves_go_on}
 use Rattle.arj_law_promise.proofs.settling.{Settled.handlers_settle, Waiting.AllKnown, Waiting.all_answer, Waiting.all_kept}
 use Rattle.arj_law_runs.proofs.resting.{Fits.runs_few, GiveUps.over_front, GiveUps.round_settles, Quiets.move_settles}
 use Rattle.arj_promise.specs.Resting.{IsGiveUp}
-use Rattle.arj_promise.specs.Runs.{Run}
+use Rattle.arj_promise.specs.Runs.{HeaderFits, Run}
 use Rattle.arj_protocol.specs.World.{Asked, says}
 use Rattle.arj_protocol.specs.Words.which
 
@@ -132,7 +131,7 @@ line_tells m w is over last front n line = record {
 
 -- A quiesce that begins where nobody waits and no frame is open, at whose end every node is up, whatever stops fall, and in which no limit
 -- is met, leaves every node idle, and its line says so.
-pub quiesces_idle : (hd : Header) → HeaderInForm hd → (r : Run hd) (m : Move) → let w = world_by hd r in
+pub quiesces_idle : (hd : Header) → HeaderFits hd → (r : Run hd) (m : Move) → let w = world_by hd r in
     lowest_from 1 w.frames ≡ None → NobodyWaits w
     → m.asked.event ≡ event.Quiesce → (moved m w).over ≡ false → AreUp (moved m w) → EndsQuiet (moved m w)
 quiesces_idle hd form r m none nobody is last ups = ends_quiet hd m (world_by hd r)
@@ -149,7 +148,7 @@ quiesces_idle hd form r m none nobody is last ups = ends_quiet hd m (world_by hd
 
 -- So does the stated round: a quiesce, giveups of each action that waits then, and a second quiesce, where every node is up at the end of
 -- both, whatever stops fall, and no limit is met (or any giveups behind which nobody waits).
-pub rounds_idle : (hd : Header) → HeaderInForm hd
+pub rounds_idle : (hd : Header) → HeaderFits hd
     → (r : Run hd) (gs : List Move) (m n : Move) → let u = world_by hd r in let v = moved m u in let w = all_moved gs v in
     m.asked.event ≡ event.Quiesce → AllByRecursion IsGiveUp gs → n.asked.event ≡ event.Quiesce
     → AreUp v → AreGivenUp gs v ⊎ NobodyWaits w → (moved n w).over ≡ false → AreUp (moved n w) → EndsQuiet (moved n w)

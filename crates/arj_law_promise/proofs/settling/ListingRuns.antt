@@ -19,7 +19,7 @@ use Words.input
 use Rattle.arj_base.specs.declared.state.Format.{Format}
 use Rattle.arj_law_promise.proofs.Terms
 use Terms.{IsAtStarts, Mark, entry_by, first_up, older_at, state_by, states_from}
-use Terms.{HeaderInForm, paths_of, IsGoodCoord, IsTree, told_by, begun_tree, put_same, IsGoodOf, IsUp, good_coord, it, same_number, Keeps}
+use Terms.{HeaderFits, paths_of, IsGoodCoord, IsTree, told_by, begun_tree, put_same, IsGoodOf, IsUp, good_coord, it, same_number, Keeps}
 use Terms.{is_act, In, at, down, given, said, up, Up, Walks, halted, walks_to, BindsAreKnown, answers_fit, some_is, IsOfStep, acked_so}
 use Terms.{heard_so, query_so, KeepsGiven, keeps_given, kept_both, first_at, node_here, book, is_decided, new_book, IsSaid, Later}
 use Terms.{book_more, later_from, AreAsked, RequestsAreKnown, Place, requests_keep, IsAnsweredBy, AllSilent, restart_silent, AsksForItself}
@@ -607,6 +607,6 @@ lists_given hd = record {
 abbrev pub ListsAreKnown : Header → Seen → Type 0
 ListsAreKnown hd M = ListBase hd M × AreListed M
 
-pub lists_keep : (hd : Header) → HeaderInForm hd → Keeps hd (ListsAreKnown hd)
+pub lists_keep : (hd : Header) → HeaderFits hd → Keeps hd (ListsAreKnown hd)
 lists_keep hd form = kept_both hd (ListBase hd) AreListed (kept_both hd RequestsAreKnown (StocksAreKnown hd) (requests_keep hd)
     (keeps_given hd RequestsAreKnown (StocksAreKnown hd) (stocks_keep hd form))) (lists_given hd)

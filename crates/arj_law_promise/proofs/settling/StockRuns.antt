@@ -9,7 +9,7 @@ use Words.body
 use Words.ask
 use Rattle.arj_law_promise.proofs.Terms
 use Terms.{IsAtStarts}
-use Terms.{HeaderInForm, Keeps, AreQuiet, In, down, given, is_quiet_line, said, up, Up, Walks, all_at_uid, some_is, KeepsGiven, keeps_given}
+use Terms.{HeaderFits, Keeps, AreQuiet, In, down, given, is_quiet_line, said, up, Up, Walks, all_at_uid, some_is, KeepsGiven, keeps_given}
 use Terms.{kept_both, Own, all_each, first_at, AreSo as FormsAreSo, kind_of, stored, kept_forms, book, is_decided}
 use Rattle.arj_law_promise.proofs.settling
 use settling.{Cores.IsDone, Rights.Found, Rights.right_keep, Steps.Either, Stills.IsRight}
@@ -168,7 +168,7 @@ stock_given hd = record {
     its : Keeps hd IsRight
     its = right_keep hd
 
-pub base_keep : (hd : Header) → HeaderInForm hd → Keeps hd (StockBase hd)
+pub base_keep : (hd : Header) → HeaderFits hd → Keeps hd (StockBase hd)
 base_keep hd form = kept_both hd (λ M. IsRight M × JoinsAreSaid M) (FormsAreSo (kind_of hd 0))
     (kept_both hd IsRight JoinsAreSaid (right_keep hd) (keeps_given hd IsRight JoinsAreSaid (joins_keep hd)))
     (keeps_given hd (λ M. IsRight M × JoinsAreSaid M) (FormsAreSo (kind_of hd 0)) (kept_forms hd 0 form))
@@ -177,5 +177,5 @@ base_keep hd form = kept_both hd (λ M. IsRight M × JoinsAreSaid M) (FormsAreSo
 abbrev pub StocksAreKnown : Header → Seen → Type 0
 StocksAreKnown hd M = StockBase hd M × IsStocked M
 
-pub stocks_keep : (hd : Header) → HeaderInForm hd → Keeps hd (StocksAreKnown hd)
+pub stocks_keep : (hd : Header) → HeaderFits hd → Keeps hd (StocksAreKnown hd)
 stocks_keep hd form = kept_both hd (StockBase hd) IsStocked (base_keep hd form) (stock_given hd)

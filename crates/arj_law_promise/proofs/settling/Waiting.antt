@@ -5,7 +5,7 @@ use Words.{Committing, Coord, Doing, doing_of, World, is_node, moved, world_by, 
 use Words.{at_place, is_waiting_now, Move, AreUp, HasAnswer}
 use Words.event
 use Rattle.arj_law_promise.proofs.Terms
-use Terms.{HeaderInForm, IsNumbered, all_keep, IsGood, Holds, KeepsAsked, keeps_asked, move_asked, moves_asked, AnswersWaits, over_before}
+use Terms.{HeaderFits, IsNumbered, all_keep, IsGood, Holds, KeepsAsked, keeps_asked, move_asked, moves_asked, AnswersWaits, over_before}
 use Terms.{asked_both, keeps_good, WaitsAreKnown}
 use Rattle.arj_law_promise.proofs.settling.{ListingRuns.ListsAreKnown, ListingRuns.lists_keep, Stored.loads_given}
 use Rattle.arj_law_promise.proofs.waiting.{Gives.at_of, Gives.known_give_by, Keeping.waits_keep, Untold.its_up}
@@ -27,16 +27,16 @@ none_left M good k c u q m found does now none =
 abbrev pub AllKnown : Header → Seen → Type 0
 AllKnown hd M = WaitsAreKnown hd M × ListsAreKnown hd M
 
-pub all_kept : (hd : Header) → HeaderInForm hd → KeepsAsked hd (AllKnown hd)
+pub all_kept : (hd : Header) → HeaderFits hd → KeepsAsked hd (AllKnown hd)
 all_kept hd form =
     asked_both hd (WaitsAreKnown hd) (ListsAreKnown hd) (waits_keep hd form) (keeps_asked hd (ListsAreKnown hd) (lists_keep hd form))
 
 -- so no request for which somebody waits is void, but one of a call that is overtaken
-pub all_answer : (hd : Header) → HeaderInForm hd → (P : Seen → Type 0) → ((M : Seen) → P M → AllKnown hd M) → AnswersWaits hd P
+pub all_answer : (hd : Header) → HeaderFits hd → (P : Seen → Type 0) → ((M : Seen) → P M → AllKnown hd M) → AnswersWaits hd P
 all_answer hd form P to = known_give_by hd form P (λ M p. (to M p).0) (loads_given hd P (λ M p. (to M p).1))
 
 -- At whose end every node is up, whatever stops fall, and in which no limit is met.
-pub runs_leave_overtaken : (hd : Header) → HeaderInForm hd → (r : Run hd) (m : Move) → let w = world_by hd r in
+pub runs_leave_overtaken : (hd : Header) → HeaderFits hd → (r : Run hd) (m : Move) → let w = world_by hd r in
     m.asked.event ≡ event.Quiesce → (moved m w).over ≡ false → AreUp (moved m w) → OnlyOvertakenWait (moved m w)
 runs_leave_overtaken hd form r v is last ups k c u q node found does waits =
     ⊎_elim (λ s. s) (λ m. absurd (none_left (see after.sent (moved v (world_by hd r))) (let p = after.holds in
@@ -55,7 +55,7 @@ runs_leave_overtaken hd form r v is last ups k c u q node found does waits =
     answer = run_answers hd (AllKnown hd) kept (all_answer hd form P (λ M p. p.0)) r v is (over_before v (world_by hd r) last) last ups
 
 -- whoever waited as it began waits so, or was answered
-pub quiesces_answer_the_rest : (hd : Header) → HeaderInForm hd → (r : Run hd) (m : Move) (k : ℕ) (c : Coord) (u : Uid) (q : Doing) →
+pub quiesces_answer_the_rest : (hd : Header) → HeaderFits hd → (r : Run hd) (m : Move) (k : ℕ) (c : Coord) (u : Uid) (q : Doing) →
     let w = world_by hd r in m.asked.event ≡ event.Quiesce → (moved m w).over ≡ false → AreUp (moved m w)
     → is_node k w ≡ true → coord_in (at_place k w.nodes) ≡ Some c → doing_of u c ≡ Some q → is_waiting_now q.now ≡ true →
     let v = moved m w in WaitsOvertaken v k u q ⊎ HasAnswer q w.lines v.lines

@@ -2,10 +2,12 @@
 use Rattle.arj_law_parts.proofs.Words
 use Words.{◌≡◌, ◌≤◌, ◌∙◌, ◌++◌, false, List, [], ◌∷◌, length-append, arith, sym, ap, subst, ◌⊎◌, inl, inr, ⊎_elim, AllByRecursion, Header}
 use Words.{Line, World, format, Move, all_moved, journal_by, moved, world_by, world_from, most_events, IsInForm, AreGivenUp, NobodyWaits}
-use Words.{HasAnswer}
+use Words.{HasAnswer, ℕ}
 use Words.{IsPlainIn, AreUp, WaitsOvertaken, EndsQuiet, EndsAtRest}
 use Rattle.arj_law_promise.proofs.Terms.{Holds, moves_asked, over_before, KnowsPrepared}
-use Rattle.arj_journal.specs.ScriptForm.{EventInForm}
+use Rattle.arj_class.specs.Forms.{FormatHolds}
+use Rattle.arj_journal.specs.ScriptForm.{AreHeld, EventInForm, HeaderInForm}
+use Rattle.arj_journal.specs.declared.header.ObjectLine.{ObjectLine}
 use Rattle.arj_law_parts.proofs.moves.Moving.{more_moves, scripts_are_moves}
 use Rattle.arj_law_promise.proofs.settling
 use settling.{Aborting.runs_show, Idle.line_tells, Idle.quiesces_idle, Idle.rounds_idle, Last.idle_disks_hold, Settled.handlers_settle}
@@ -19,7 +21,8 @@ use joint.{DisksInTime.runs_exclude_on_disks, FitRuns.scripts_in_form, FitStops.
 use Rattle.arj_promise.specs.Promise.{CalmQuiescesEndAtRest, EndsInQuiesce, EndsInRound, KeptAfterEveryEvent, QuiescesAnswerWhoWaits}
 use Rattle.arj_promise.specs.Promise.{QuiescesGiveUpNothing, QuiescesLeaveOvertaken, QuietDisksHoldAll, QuietLinesTell, RoundsEndAtRest}
 use Rattle.arj_promise.specs.Promise.{RunsKeepThePromise, ScriptsAreRuns}
-use Rattle.arj_promise.specs.Runs.{IsStoppedInForm, Run, then}
+use Rattle.arj_promise.specs.Runs.{FirstsAreHeld, IsStoppedInForm, Run, header_fits, then}
+use Rattle.arj_start.specs.Start.{Marks, none_written}
 use Rattle.arj_promise.specs.Waiting.{OnlyOvertakenWait}
 
 -- ---- the promise
@@ -43,6 +46,7 @@ all_front P (x ∷ xs) ys all = (all.0, all_front P xs ys all.1)
 front_in_form : (hd : Header) (front : Run hd) (rest : List Move) → IsInForm hd (then front rest) → IsInForm hd front
 front_in_form hd front rest f = record {
   header = f.header;
+  held = f.held;
   events = all_front (λ (m : Move). let e = m.asked in EventInForm e.event) front.moves rest f.events;
   few = omega (arith, f.few, length-append front.moves rest);
   stops = all_front IsStoppedInForm front.moves rest f.stops;
@@ -51,10 +55,20 @@ front_in_form hd front rest f = record {
 pub fronts_keep : KeptAfterEveryEvent
 fronts_keep hd front rest f = let g = front_in_form hd front rest f in (g, runs_keep hd front g)
 
+-- states of a header's format hold its values
+pub firsts_held : (hd : Header) (marks : Marks) → HeaderInForm hd → FirstsAreHeld hd marks
+firsts_held hd marks form = each hd.objects form.held
+  where
+    each : (os : List ObjectLine) → AreHeld hd.format os →
+        AllByRecursion (λ (o : ObjectLine). (let m = marks.states o.x in m.version) ≡ 0 → FormatHolds hd.format o.value) os
+    each [] all = tt
+    each (o ∷ os) all = ((λ first. all.0), each os all.1)
+
 pub scripts_run : ScriptsAreRuns
 scripts_run hd es form fit short = (
   record {
-    header = form;
+    header = header_fits hd form;
+    held = firsts_held hd none_written form;
     events = scripts_in_form es (format hd) fit;
     few = subst (λ n. n ≤ most_events) (sym (as_many es (format hd))) short;
     stops = script_stops es (format hd) fit tt;

@@ -19,7 +19,7 @@ use Words.recorded
 use Rattle.arj_law_promise.proofs.Terms
 use Terms.{Action, action_of, IsAsking, IsBusy, AreOnce, IsNumbered, IsOfStep, bare, IsGoodOf, IsUp, In, up, node_here, all_at_uid, some_is}
 use Terms.{keyed_found, IsAskedBy, AnswersWaits, IsVoid, HasObject, ArePastIn, HasStored, LoadsFind, WaitsAreKnown, UsesOf, kind_of, stored}
-use Terms.{NowIsSo, OwnOf, HeaderInForm, IsUsedIn, ActivateNamed, HasMade, MadeWasSaid, NamedAt, NamedWasSaid, ReplyWasAsked}
+use Terms.{NowIsSo, OwnOf, HeaderFits, IsUsedIn, ActivateNamed, HasMade, MadeWasSaid, NamedAt, NamedWasSaid, ReplyWasAsked}
 use Terms.{ServerWasAsked, StandsIn, WasBrought, WasMade, WasNamed, all_each, first_values}
 use Rattle.arj_law_disk_view.specs.running.{Entries.IsEntryNode, Entries.KnowsEntries, States.AtIsSo}
 use Rattle.arj_law_lock_view.proofs.records.Tops.{top_among}
@@ -194,7 +194,7 @@ module _ (hd : Header) (M : Seen) (known : WaitsAreKnown hd M) (j : ℕ) (u : Ui
 
 -- ---- whoever waits
 
-module _ (hd : Header) (form : HeaderInForm hd) (j : ℕ) (d : Disk) (t : Parts) (M : Seen) (known : WaitsAreKnown hd (up j d t M))
+module _ (hd : Header) (form : HeaderFits hd) (j : ℕ) (d : Disk) (t : Parts) (M : Seen) (known : WaitsAreKnown hd (up j d t M))
     (c : Coord) (u : Uid) (q : Doing) (does : doing_of u c ≡ Some q) where
   abbrev W : Seen
   W = up j d t M
@@ -591,7 +591,7 @@ module _ (hd : Header) (j : ℕ) (d : Disk) (t : Parts) (M : Seen) (known : Wait
   answer_meant (Reply.Confirmed r) is waits = refl
 
 -- so it is with any relation by which so much is known
-pub known_give_by : (hd : Header) → HeaderInForm hd → (P : Seen → Type 0) → ((M : Seen) → P M → WaitsAreKnown hd M) → LoadsFind P →
+pub known_give_by : (hd : Header) → HeaderFits hd → (P : Seen → Type 0) → ((M : Seen) → P M → WaitsAreKnown hd M) → LoadsFind P →
     AnswersWaits hd P
 known_give_by hd form P to rest = record {
   within = λ M p r sent. let k = (to M r).0.0.1 in let so = k.1 in let z = so.1 p sent in z.1;

@@ -4,7 +4,7 @@ use Words.{◌≡◌, ◌≤◌, ◌+◌, arith, ℕ, true, List, [], ◌∷◌,
 use Words.{nat_tests, Header, ObjectLine, again_all, begin_action, Disk, Effect, tick_outs, Parts, with_coord, acts, parent_of, parts_in}
 use Words.{restart_outs, Seen, is_serial}
 use Rattle.arj_law_promise.proofs.Terms
-use Terms.{HeaderInForm, ObjectLineInForm, Keeps, KeepsAsked, given, Up, Walks, keeps_asked, all_keep, IsGood, keeps_given, kept_both}
+use Terms.{HeaderFits, ObjectLineInForm, Keeps, KeepsAsked, given, Up, Walks, keeps_asked, all_keep, IsGood, keeps_given, kept_both}
 use Terms.{BindsAreKnown, HasObject, AreAddressed, IsNode, ObjectsAreHeld, RequestsAreKnown, requests_keep, asked_both, EndsArePast}
 use Terms.{past_keep, HaveForms, WereAsked, kept_forms, AreSo, kind_of, ArePastWriters, AreSince, given_more}
 use Rattle.arj_journal.specs.declared.limits.TheConstants.{SERVERS, STORES}
@@ -24,7 +24,7 @@ use Rattle.arj_text.specs.Fields.{NodesInForm, is_distinct}
 
 -- ---- addresses
 
-module _ (hd : Header) (form : HeaderInForm hd) where
+module _ (hd : Header) (form : HeaderFits hd) where
   abbrev Fits : ℕ → Type 0
   Fits n = IsNode hd n
 
@@ -86,7 +86,7 @@ objects_keep hd =
     (λ has M. HaveEntries x M) (λ has. keeps_entries x hd (let k = entries_keep hd x has in k.first)))))
 
 -- states, answers, and what servers have
-askers_keep : (hd : Header) → HeaderInForm hd → KeepsAsked hd (AskersAreKnown hd)
+askers_keep : (hd : Header) → HeaderFits hd → KeepsAsked hd (AskersAreKnown hd)
 askers_keep hd form = asked_both hd (λ M. ((RequestsAreKnown M × HaveForms hd M) × ObjectsAreHeld M) × WereAsked M)
     (λ M. RequestsAreHome M × WritersArePast M)
     (keeps_asked hd (λ M. ((RequestsAreKnown M × HaveForms hd M) × ObjectsAreHeld M) × WereAsked M)

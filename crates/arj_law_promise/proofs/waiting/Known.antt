@@ -10,7 +10,7 @@ use Words.{Reply, ask_kind, reply_kind, waits_for_call}
 use Words.list
 use Words.ask
 use Rattle.arj_law_promise.proofs.Terms
-use Terms.{AreOnce, HasObject, HeaderInForm, ObjectLineInForm, IsUsedIn, UsesOf, all_at, keyed_found, first_values, some_is, order_exact}
+use Terms.{AreOnce, HasObject, HeaderFits, ObjectLineInForm, IsUsedIn, UsesOf, all_at, keyed_found, first_values, some_is, order_exact}
 use Rattle.arj_journal.specs.declared.limits.TheConstants.{OBJECTS}
 use Rattle.arj_law_serial.specs.joint.Forms.{CopyIsSo}
 use Rattle.arj_model.specs.Last.{object_line, value_of_line}
@@ -25,7 +25,7 @@ itself n = grind arith
 
 -- ---- objects of the header
 
-module _ (hd : Header) (form : HeaderInForm hd) where
+module _ (hd : Header) (form : HeaderFits hd) where
   -- their numbers are those of objects
   number_is : (x : ℕ) → HasObject hd x → (nat_le 1 x && nat_le x OBJECTS) ≡ true
   number_is x has = by hd.objects (let f = form.objects in f.0) (in_from has.0 hd.objects has.1)

@@ -1,7 +1,6 @@
 -- Nothing that is sent in a run fails to be meant, so that every message is void by the table alone.
 use Rattle.std.specs.Prelude.{◌≡◌, ◌⊎◌, ℕ, true, false, List, [], ◌∷◌, Some, map}
 use Rattle.std.specs.List.{AllByRecursion}
-use Rattle.arj_journal.specs.ScriptForm.{HeaderInForm}
 use Rattle.arj_protocol.specs.Words.{Ask, Asked, Binding, Head, Header, Message, ObjectState, asks, object}
 use Rattle.arj_protocol.specs.Words.ask
 use Rattle.arj_protocol.specs.Ask.{Reply, answers}
@@ -13,7 +12,7 @@ use Rattle.arj_protocol.specs.World.{Arm, Frame, World, counted, deliver, tick_u
 use Rattle.arj_law_lock_view.specs.facts.Entries.{HasObject}
 use Rattle.arj_law_parts.specs.moves.Keeps.{Holds, KeepsAsked}
 use Rattle.arj_law_parts.specs.moves.Seen.{In}
-use Rattle.arj_promise.specs.Runs.{Post, Run, Seen, world_by}
+use Rattle.arj_promise.specs.Runs.{HeaderFits, Post, Run, Seen, world_by}
 use Rattle.arj_law_promise.specs.meant.Void.{IsVoidWhere, SaysVoidWhere, awaits, frame_is_void, is_void_in}
 use Rattle.arj_law_promise.specs.waiting.Waits.{WaitsAreKnown}
 
@@ -42,7 +41,7 @@ MeantAreKnown hd M = WaitsAreKnown hd M × RequestsFit hd M
 
 -- each handler keeps it
 abbrev pub HandlersKeepMeant : Type 0
-HandlersKeepMeant = (hd : Header) → HeaderInForm hd → KeepsAsked hd (MeantAreKnown hd)
+HandlersKeepMeant = (hd : Header) → HeaderFits hd → KeepsAsked hd (MeantAreKnown hd)
 
 -- ---- messages that come
 
@@ -65,11 +64,11 @@ AreMeant hd M = (p : Post) (n : Node) (t : Parts) → In p M.sent → M.nodes p.
 
 -- so much is given at each moment of a run
 abbrev pub KnownAreMeant : Type 0
-KnownAreMeant = (hd : Header) → HeaderInForm hd → (M : Seen) → MeantAreKnown hd M → AreMeant hd M
+KnownAreMeant = (hd : Header) → HeaderFits hd → (M : Seen) → MeantAreKnown hd M → AreMeant hd M
 
 -- so it is behind every run
 abbrev pub RunsMean : Type 0
-RunsMean = (hd : Header) → HeaderInForm hd → (r : Run hd) → Holds hd (AreMeant hd) (world_by hd r)
+RunsMean = (hd : Header) → HeaderFits hd → (r : Run hd) → Holds hd (AreMeant hd) (world_by hd r)
 
 -- ---- frames
 
@@ -100,5 +99,5 @@ parts_done (p ∷ ps) w = parts_done ps (part_done p w)
 
 -- So it is behind every run, and within the event behind it, whatever stops may fall there.
 abbrev pub RunsAreVoidExactly : Type 0
-RunsAreVoidExactly = (hd : Header) → HeaderInForm hd → (r : Run hd) (arms : List (ℕ × Arm)) (ps : List Part) →
+RunsAreVoidExactly = (hd : Header) → HeaderFits hd → (r : Run hd) (arms : List (ℕ × Arm)) (ps : List Part) →
     FramesAreVoidExactly hd (parts_done ps (record (counted (world_by hd r)) { arms = arms }))

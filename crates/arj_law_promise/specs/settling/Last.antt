@@ -3,7 +3,6 @@ use Rattle.std.specs.Prelude.{◌≡◌, ◌&&◌, ℕ, true, List, [], Some, is
 use Rattle.arj_base.specs.State.{state_bytes}
 use Rattle.arj_base.specs.Uid.{entry, object}
 use Rattle.arj_disk.specs.declared.slot.Role.TheVariants.{Names, Store}
-use Rattle.arj_journal.specs.ScriptForm.{HeaderInForm}
 use Rattle.arj_model.specs.Clean.{CleanFrom}
 use Rattle.arj_model.specs.Disks.{Disks, held}
 use Rattle.arj_model.specs.Last.{entry_from, is_among, last_from, listed, object_line}
@@ -11,7 +10,7 @@ use Rattle.arj_start.specs.Start.{Marks}
 use Rattle.arj_protocol.specs.Words.{Header, Line}
 use Rattle.arj_protocol.specs.World.{World}
 use Rattle.arj_law_parts.specs.moves.Keeps.{Stands}
-use Rattle.arj_promise.specs.Runs.{Post, see}
+use Rattle.arj_promise.specs.Runs.{HeaderFits, Post, see}
 use Rattle.arj_promise.specs.Resting.{AreQuiet}
 use Rattle.arj_promise.specs.Disks.{DisksAre}
 use Rattle.arj_promise.specs.Resting.{HasNothingLeft}
@@ -27,5 +26,5 @@ pub record HoldTheLast (hd : Header) (marks : Marks) (lines : List Line) (disks 
 
 -- So it is of clean disks where every node is idle.
 abbrev pub IdleDisksHoldTheLast : Type 0
-IdleDisksHoldTheLast = (hd : Header) (marks : Marks) (lines : List Line) (sent : List Post) (w : World) (disks : Disks) → HeaderInForm hd
+IdleDisksHoldTheLast = (hd : Header) (marks : Marks) (lines : List Line) (sent : List Post) (w : World) (disks : Disks) → HeaderFits hd
     → Stands hd sent w → AreQuiet w → DisksAre (see [] w) disks → CleanFrom hd marks lines disks → HoldTheLast hd marks lines disks

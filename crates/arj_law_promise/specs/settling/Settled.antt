@@ -1,13 +1,12 @@
 -- What holds in every run, of which nothing that is prepared is left for ever.
 use Rattle.std.specs.Prelude.{◌≡◌, ℕ, List, Some}
-use Rattle.arj_journal.specs.ScriptForm.{HeaderInForm}
 use Rattle.arj_protocol.specs.Words.{Header}
 use Rattle.arj_protocol.specs.Node.{Parts}
 use Rattle.arj_protocol.specs.Step.{Node}
 use Rattle.arj_law_parts.specs.parts.Actions.{Action}
 use Rattle.arj_law_runs.specs.kept.Worlds.{IsGood, IsGoodOf}
 use Rattle.arj_law_parts.specs.moves.Keeps.{KeepsAsked}
-use Rattle.arj_promise.specs.Runs.{Seen}
+use Rattle.arj_promise.specs.Runs.{HeaderFits, Seen}
 use Rattle.arj_law_runs.specs.addresses.Addresses.{AreAddressed}
 use Rattle.arj_law_runs.specs.addresses.Binds.{BindsAreKnown}
 use Rattle.arj_law_disk_view.specs.running.Records.{AreRecorded}
@@ -28,4 +27,4 @@ KnowsPrepared hd M = (DisksAreKnown M × ((IsGood M × BindsAreKnown M) × Asker
 
 -- each handler keeps it, and it gives all that a quiesce takes of records and of what is prepared
 abbrev pub HandlersSettle : Type 0
-HandlersSettle = (hd : Header) → HeaderInForm hd → KeepsAsked hd (KnowsPrepared hd) × SettlesAll hd (KnowsPrepared hd)
+HandlersSettle = (hd : Header) → HeaderFits hd → KeepsAsked hd (KnowsPrepared hd) × SettlesAll hd (KnowsPrepared hd)

@@ -6,17 +6,19 @@ use Rattle.arj_base.specs.declared.state.Format.TheVariants as format
 use Rattle.arj_base.specs.declared.state.ObjectState.{ObjectState}
 use Rattle.arj_base.specs.declared.uid.Uid.{Uid}
 use Rattle.arj_base.specs.Uid.{object}
-use Rattle.arj_class.specs.declared.value.Value.TheVariants.{Account}
+use Rattle.arj_class.specs.declared.value.Value.TheVariants.{Account, Register}
 use Rattle.arj_journal.specs.declared.body.Body.TheVariants as body
 use Rattle.arj_journal.specs.declared.body.Kind.TheVariants as kind
 use Rattle.arj_journal.specs.declared.event.Event.{Event}
 use Rattle.arj_journal.specs.declared.event.Event.TheVariants as event
 use Rattle.arj_journal.specs.declared.header.Header.{Header}
+use Rattle.arj_journal.specs.declared.header.ObjectLine.{ObjectLine}
 use Rattle.arj_start.specs.Start.{Start}
 use Rattle.arj_promise.specs.Promise.{KeepsThePromise}
-use Rattle.arj_promise.specs.Runs.{IsInForm, Move, Run, journal_by}
+use Rattle.arj_promise.specs.Runs.{IsInForm, Move, Run, from_format, journal_by}
 use Rattle.arj_promise.specs.Starts.{IsFormed}
 use Rattle.arj_protocol.specs.Effect.{Before}
+use Rattle.arj_protocol.specs.Step.{state_by}
 use Rattle.arj_protocol.specs.World.{is_up, numbered, world_from}
 use Rattle.arj_text.specs.declared.label.Label.{Label}
 
@@ -24,10 +26,13 @@ use Rattle.arj_text.specs.declared.label.Label.{Label}
 abbrev pub letter : ℕ → Label
 letter c = record { len = 1; text = c ∷ replicate 15 0; whole = refl; short = omega arith; zeros = refl }
 
--- three nodes, and an account whose server is node 1 and whose stores are nodes 1 and 2
+-- an account whose server is node 1 and whose stores are nodes 1 and 2
+abbrev pub account : ObjectLine
+account = record { x = 1; value = Account 5; servers = 1 ∷ []; stores = 1 ∷ 2 ∷ [] }
+
+-- three nodes, and that account
 abbrev pub three_nodes : Header
-three_nodes =
-    record { nodes = 3; objects = record { x = 1; value = Account 5; servers = 1 ∷ []; stores = 1 ∷ 2 ∷ [] } ∷ []; format = format.Two }
+three_nodes = record { nodes = 3; objects = account ∷ []; format = format.Two }
 
 -- an action of the incarnation before the one in which node 1 is up
 abbrev pub earlier : Uid
@@ -95,7 +100,25 @@ pub record GoesOn : Type 0 where
       ≡ numbered 1 (body.Began (letter 66) kind.Top (record { node = 1; inc = 2; num = 1 }) None ∷ [])
   pub refuses : journal_by three_nodes (later_run formed (begin_a ∷ [])) ≡ numbered 1 (body.Refused 4 ∷ [])
 
--- an older state that isn't below the object's last one
+-- its last state at node 3 too, which isn't listed any more
+abbrev pub last_there : Start
+last_there = record later { older = (3, state_by format.Two (record { version = 3; writer = earlier }) account) ∷ [] }
+
+-- in the older format, a register of more bytes than that holds at first
+abbrev pub long_register : Header
+long_register = record {
+  nodes = 1;
+  objects = record { x = 1; value = Register (replicate 65 0); servers = 1 ∷ []; stores = 1 ∷ [] } ∷ [];
+  format = format.One;
+}
+
+-- The register was written, with nothing else at stores: so a run begins in form; and it doesn't where nothing was written.
+pub record HasGrown : Type 0 where
+  pub formed : IsFormed long_register (record later { older = [] })
+  pub in_form : IsInForm long_register (record { start = record later { older = [] }; formed = formed; moves = [] })
+  pub unwritten : (ms : List Move) → IsInForm long_register (from_format long_register ms) → ⊥
+
+-- an older state that is neither below the object's last one nor that
 abbrev pub not_below : Start
 not_below = record later { older = (3, record old_state { version = 3 }) ∷ [] }
 

@@ -1,6 +1,5 @@
 -- So much is known of whoever waits, in every run; and what it gives of requests for which somebody waits.
 use Rattle.std.specs.Prelude.{Bool, List, Some, is_some, true, ℕ, ◌||◌, ◌≡◌}
-use Rattle.arj_journal.specs.ScriptForm.{HeaderInForm}
 use Rattle.arj_protocol.specs.Words.{Header, Uid, object}
 use Rattle.arj_protocol.specs.Call.{AtLoad, Known, Steps}
 use Rattle.arj_protocol.specs.Coord.{Calling, Coord, Doing, doing_of}
@@ -16,7 +15,7 @@ use Rattle.arj_law_lock_view.specs.facts.Requests.{RequestsAreKnown}
 use Rattle.arj_law_lock_view.specs.facts.Uppers.{ObjectsAreHeld}
 use Rattle.arj_law_parts.specs.moves.Keeps.{KeepsAsked}
 use Rattle.arj_law_parts.specs.moves.Seen.{up}
-use Rattle.arj_promise.specs.Runs.{Seen}
+use Rattle.arj_promise.specs.Runs.{HeaderFits, Seen}
 use Rattle.arj_law_runs.specs.resting.Rounds.{AnswersWaits, HasCome}
 use Rattle.arj_law_runs.specs.resting.Waits.{want_of_call}
 use Rattle.arj_law_promise.specs.waiting.Asked.{HaveForms, WereAsked}
@@ -40,7 +39,7 @@ WaitsAreKnown hd M = (((EndsArePast M × RequestsAreKnown M) × AreAddressed hd 
 
 -- each handler keeps it
 abbrev pub HandlersKeepWaits : Type 0
-HandlersKeepWaits = (hd : Header) → HeaderInForm hd → KeepsAsked hd (WaitsAreKnown hd)
+HandlersKeepWaits = (hd : Header) → HeaderFits hd → KeepsAsked hd (WaitsAreKnown hd)
 
 -- ---- where a Load comes
 
@@ -56,5 +55,5 @@ LoadsFind R = (j : ℕ) (d : Disk) (t : Parts) (M : Seen) (c : Coord) (u : Uid) 
 
 -- With it no request for which somebody waits is void, but one of a call that is overtaken. No other request needs anything.
 abbrev pub KnownGive : Type 0
-KnownGive = (hd : Header) → HeaderInForm hd → (test : Seen → Bool) → LoadsFind (λ M. WaitsAreKnown hd M × (test M ≡ true)) →
+KnownGive = (hd : Header) → HeaderFits hd → (test : Seen → Bool) → LoadsFind (λ M. WaitsAreKnown hd M × (test M ≡ true)) →
     AnswersWaits hd (λ M. WaitsAreKnown hd M × (test M ≡ true))

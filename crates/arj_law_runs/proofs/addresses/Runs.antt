@@ -12,7 +12,8 @@ use Rattle.arj_law_runs.proofs.Terms
 use Terms.{IsAtStarts, Run, disk_by, entries_from, entry_by, Asked, HasPlace, Holds, IsSent, KeepsAsked, is_act, In, at, given, posted}
 use Terms.{AreQuiet, said, up, Up, Walks, event_asked, keeps_asked}
 use Terms.{moves_asked, walks_both, AllOf, AreOf, CoordOf, DiskOf, EntryOf, IsEntry, PartsOf, StateOf}
-use Rattle.arj_journal.specs.ScriptForm.{HeaderInForm, ObjectLineInForm}
+use Rattle.arj_journal.specs.ScriptForm.{ObjectLineInForm}
+use Rattle.arj_promise.specs.Runs.{HeaderFits}
 use Rattle.arj_journal.specs.declared.limits.TheConstants.{SERVERS, STORES}
 use Rattle.arj_law_parts.proofs.moves.EachNode as at_each
 use Rattle.arj_law_parts.proofs.moves.Happens.{first_asked}
@@ -249,7 +250,7 @@ module _ (G : ℕ → Type 0) where
 
 -- ---- the numbers up to the header's
 
-module _ (hd : Header) (form : HeaderInForm hd) where
+module _ (hd : Header) (form : HeaderFits hd) where
   abbrev Fits : ℕ → Type 0
   Fits n = IsNode hd n
 

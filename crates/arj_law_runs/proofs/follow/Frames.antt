@@ -21,13 +21,12 @@ use Rattle.arj_law_runs.proofs.follow.Telling.{Tells, frame_test}
 use Rattle.arj_law_runs.proofs.follow.Walking.{AreFor, Fit, behind_all, lines_behind, stays_behind}
 use Rattle.arj_law_runs.specs.addresses.Addresses.{AreAddressed}
 use Rattle.arj_law_runs.specs.follow.Frames.{FramesStep, are_so, frame_fits, run_events}
-use Rattle.arj_journal.specs.ScriptForm.{HeaderInForm}
 use Rattle.arj_model.specs.CausePends.{frame_is}
 use Rattle.arj_model.specs.CauseSpans.{Here, behind, here_at}
 use Rattle.arj_model.specs.Follows.{Runs}
 use Rattle.arj_model.specs.Past.{Asked as AskedOf, Past, at_start, block}
 use Rattle.arj_model.specs.Refusals.{is_down, is_node}
-use Rattle.arj_promise.specs.Runs.{IsStoppedInForm, Run}
+use Rattle.arj_promise.specs.Runs.{HeaderFits, IsStoppedInForm, Run}
 use Rattle.arj_promise.specs.Starts.{IsFormed}
 use Rattle.arj_protocol.specs.{Step.disk_by, Words.FrameKind}
 
@@ -103,7 +102,7 @@ same_reasons (event.Stop n c how) w = refl
 same_reasons (event.Junk n bytes) w = refl
 same_reasons (event.Show x) w = refl
 
-module _ (hd : Header) (form : HeaderInForm hd) where
+module _ (hd : Header) (form : HeaderFits hd) where
   for_nodes : (w : World) → Holds hd (AreAddressed hd) w → AreFor hd w.frames
   for_nodes w h = within_of hd form w h
 

@@ -30,12 +30,11 @@ use Rattle.arj_law_runs.proofs.journal.Models.{its_acts}
 use Rattle.arj_law_parts.proofs.moves.Places.{all_found as all_labels}
 use Rattle.arj_law_runs.specs.follow.Frames.{FramesStep, run_events}
 use Rattle.arj_law_runs.specs.follow.Refusals.{PlainRefusalsStep, ended, is_plain_cause, names_action}
-use Rattle.arj_journal.specs.ScriptForm.{HeaderInForm}
 use Rattle.arj_model.specs.Actions.{is_begun}
 use Rattle.arj_model.specs.Follows.{Runs}
 use Rattle.arj_model.specs.Past.{Past, at_start, block, is_refused, next}
 use Rattle.arj_model.specs.Refusals as model
-use Rattle.arj_promise.specs.Runs.{HasWork, IsStoppedInForm, Run}
+use Rattle.arj_promise.specs.Runs.{HasWork, HeaderFits, IsStoppedInForm, Run}
 use Rattle.arj_promise.specs.Starts.{IsFormed}
 
 -- ---- which lines an event wrote
@@ -257,7 +256,7 @@ module _ (m : Move) (w : World) (on : w.over ≡ false) (free : w.full ≡ false
 
 -- ---- runs
 
-module _ (hd : Header) (form : HeaderInForm hd) where
+module _ (hd : Header) (form : HeaderFits hd) where
   -- a run up to an event, and the world there
   pub record Stands (p : Past) (w : World) : Type 0 where
     pub base : frames.Stands hd form p w

@@ -36,14 +36,13 @@ use Rattle.arj_law_runs.proofs.follow.Uids.{KnowsNext, count_of, next_keep}
 use Rattle.arj_law_runs.specs.follow.Frames.{FramesStep, run_events}
 use Rattle.arj_law_runs.specs.follow.Refusals.{names_action}
 use Rattle.arj_law_runs.specs.follow.Shorts.{ShortEventsStep, begins_below, is_short}
-use Rattle.arj_journal.specs.ScriptForm.{HeaderInForm}
 use Rattle.arj_model.specs.Follows.{Accepted, Runs, is_limited}
 use Rattle.arj_model.specs.Follows as model_step
 use Rattle.arj_model.specs.Own as own
 use Rattle.arj_model.specs.Own.{Begins}
 use Rattle.arj_model.specs.Past.{Past, at_start, block, is_refused, next}
 use Rattle.arj_model.specs.Refusals as model
-use Rattle.arj_promise.specs.Runs.{HasWork, IsStoppedInForm, Run}
+use Rattle.arj_promise.specs.Runs.{HasWork, HeaderFits, IsStoppedInForm, Run}
 use Rattle.arj_promise.specs.Starts.{IsFormed}
 use Rattle.arj_protocol.specs.World as world
 use Rattle.std.specs.Prelude.{MatchOption}
@@ -89,7 +88,7 @@ module _ (b : Body) (w : World) (few : length w.frames ≤ most_frames) (k : ℕ
 
 -- ---- runs
 
-module _ (hd : Header) (form : HeaderInForm hd) where
+module _ (hd : Header) (form : HeaderFits hd) where
   pub record Stands (p : Past) (w : World) : Type 0 where
     pub base : refusing.Stands hd form p w
     pub next : Holds hd KnowsNext w

@@ -11,7 +11,7 @@ use Words.kind
 use Rattle.arj_law_runs.proofs.Terms
 use Terms.{book, new_book, turned, AreRight, IsGiven, Right, label_at}
 use Rattle.arj_journal.specs.LineForm.{BodyInForm, LineInForm, ParentInForm}
-use Rattle.arj_journal.specs.ScriptForm.{EventInForm, HeaderInForm}
+use Rattle.arj_journal.specs.ScriptForm.{EventInForm}
 use Rattle.arj_law_runs.proofs.addresses.Runs.{lines_name}
 use Rattle.arj_law_runs.proofs.bindings.Labels.{happens_labels, limited_labels}
 use Rattle.arj_law_runs.proofs.calls.Reaching.{moves_keep}
@@ -24,7 +24,7 @@ use Rattle.arj_law_runs.specs.forms.World.{IsSaidInForm}
 use Rattle.arj_law_runs.specs.journal.Book.{Book, book_from}
 use Rattle.arj_law_runs.specs.journal.Right.{IsBelow}
 use Rattle.arj_model.specs.Actions.{Act, act_in}
-use Rattle.arj_promise.specs.Runs.{AreMovesInForm}
+use Rattle.arj_promise.specs.Runs.{AreMovesInForm, HeaderFits}
 use Rattle.arj_protocol.specs.World.{Asked}
 use Rattle.arj_text.specs.Label.{LabelInForm, is_label}
 use Rattle.std.proofs.Common.{Ordering, Less, Equal, Greater}
@@ -162,7 +162,7 @@ runs_say_labels hd r form =
 
 -- ---- lines of names
 
-names_form : (hd : Header) → HeaderInForm hd → (b : Body) → LabelsInForm b → SaysOf (IsNode hd) b → is_of_names b ≡ true → BodyInForm b
+names_form : (hd : Header) → HeaderFits hd → (b : Body) → LabelsInForm b → SaysOf (IsNode hd) b → is_of_names b ≡ true → BodyInForm b
 names_form hd form (body.Lost l n) label node is = (label, node_form hd form n node)
 names_form hd form (body.GaveUp l n) label node is = (label, node_form hd form n node)
 names_form hd form (body.Committing l) label node is = label

@@ -21,7 +21,7 @@ use Rattle.arj_law_runs.proofs.Terms
 use Terms.{Asked, says, In, IsSent, Holds, moves_asked, place_same, Run}
 use Terms.which
 use Rattle.arj_journal.specs.LineForm.{BodyInForm, NodeInForm, SenderInForm, is_junk}
-use Rattle.arj_journal.specs.ScriptForm.{HeaderInForm}
+use Rattle.arj_promise.specs.Runs.{HeaderFits}
 use Rattle.arj_journal.specs.declared.limits.TheConstants.{NODES, REFUSALS}
 use Rattle.arj_law_parts.proofs.moves.Reasons.{first_not, not_not}
 use Rattle.arj_law_parts.proofs.steps.{StepLines.OfInput, StepLines.step_says, Whole.step_number}
@@ -647,7 +647,7 @@ module _ (hd : Header) where
 
   -- ---- lines in form
 
-  module _ (form : HeaderInForm hd) where
+  module _ (form : HeaderFits hd) where
     pub node_form : (n : ℕ) → IsNode hd n → NodeInForm n
     node_form n is =
         let p = and_parts (nat_le 1 n) (nat_le n hd.nodes) is in
@@ -752,7 +752,7 @@ module _ (hd : Header) where
       lines_form (l ∷ ls) all = ((all.0.0, body_form l.body all.0.1), lines_form ls all.1)
 
 -- as a run begins
-first_speaks : (hd : Header) → HeaderInForm hd → (r : Run hd) → Speaks hd 0 (world_from hd r.start)
+first_speaks : (hd : Header) → HeaderFits hd → (r : Run hd) → Speaks hd 0 (world_from hd r.start)
 first_speaks hd form r =
     let h = first_within hd form r.start r.formed in
     record {

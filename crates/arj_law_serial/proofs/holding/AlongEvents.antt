@@ -9,7 +9,7 @@ use Words.body
 use Words.event
 use Rattle.arj_law_serial.proofs.Terms
 use Terms.{IsAtStarts}
-use Terms.{HeaderInForm, first_values, object_line, table, Asked, Action, arms_hold, event_asked, first_asked, IsAlikeOf, State}
+use Terms.{HeaderFits, first_values, object_line, table, Asked, Action, arms_hold, event_asked, first_asked, IsAlikeOf, State}
 use Terms.{AreUppersOf, AgreesBy, Fixed, SeesLocks, AreTied, locks_in, memory_of, HoldsNames, rows_on, up_of, IsApt}
 use Terms.which
 use Rattle.arj_law_parts.specs.moves.Keeps.{Holds}
@@ -84,7 +84,7 @@ module _ (w : World) (early : (j : ℕ) → up_of j w.lines ≤ w.event) where
 le_or : (p m n : ℕ) → p ≤ n → n ≤ m + 1 → (p ≤ m) ⊎ (p ≡ n)
 le_or p m n one two = grind (arith, one, two)
 
-module _ (hd : Header) (x : ℕ) (form : HeaderInForm hd) (there : is_some (object_line hd x) ≡ true) where
+module _ (hd : Header) (x : ℕ) (form : HeaderFits hd) (there : is_some (object_line hd x) ≡ true) where
   -- tables show locks, and the object was seen at each place
   pub record IsAlong (w : World) : Type 0 where
     pub shown : IsShown hd w

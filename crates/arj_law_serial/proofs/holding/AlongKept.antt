@@ -10,7 +10,7 @@ use Words.body
 use Words.input
 use Rattle.arj_law_serial.proofs.Terms
 use Terms.{Marks}
-use Terms.{HeaderInForm, Act, acts, first_values, object_line, Action, KeepsFrom, In, at, down, given, said, up, Up, Walks, halted}
+use Terms.{HeaderFits, Act, acts, first_values, object_line, Action, KeepsFrom, In, at, down, given, said, up, Up, Walks, halted}
 use Terms.{walks_both, walks_to, KnowsFew, KeepsGiven, IsAlikeOf, IsPathedOf, act_pathed, message_pathed, live_in, Office, Kinds}
 use Terms.{KnowsScript, nothing_more, Run, stay, State, AreUppersOf, Case, IsSeenIn, KnowsSpot, Spot, world_at, AgreesBy, Fixed, view_of}
 use Terms.{GivesLocks, case_of, SeesLocks, SeesUp, AreTied, is_for_parts, shown_to_server, SayOf, locks_in, memory_of, HoldsNames}
@@ -104,7 +104,7 @@ module _ (hd : Header) (x first event later next : ℕ) where
         early,
       )
 
-module _ (hd : Header) (x : ℕ) (form : HeaderInForm hd) (there : is_some (object_line hd x) ≡ true) (first event : ℕ) where
+module _ (hd : Header) (x : ℕ) (form : HeaderFits hd) (there : is_some (object_line hd x) ≡ true) (first event : ℕ) where
   abbrev Apt : Marks → Fixed → Type 0
   Apt marks f = IsApt (first_values hd) x marks f
 

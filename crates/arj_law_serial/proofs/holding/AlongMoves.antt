@@ -5,7 +5,7 @@ use Words.{◌≡◌, ◌⊎◌, ◌≤◌, ◌<◌, ◌+◌, ℕ, List, [], ◌
 use Words.{World, run_event, Move, all_moved, journal_by, moved, world_by, Seen, see}
 use Words.event
 use Rattle.arj_law_serial.proofs.Terms
-use Terms.{HeaderInForm, first_values, included, object_line, Asked, IsReached, moves_reached, State, HasObject, AgreesAs, Fixed, SeesLocks}
+use Terms.{HeaderFits, first_values, included, object_line, Asked, IsReached, moves_reached, State, HasObject, AgreesAs, Fixed, SeesLocks}
 use Terms.{AreTied, RequestsAreOne, AreApart, OpsFit}
 use Rattle.arj_law_disk_view.proofs.running.Begun.{kinds_agree}
 use Rattle.arj_law_disk_view.specs.running.Kinds.{kinds_of}
@@ -33,7 +33,7 @@ restarts_or e = inr (λ n same. cc same)
 before_or : (m n : ℕ) → (m ≤ n) ⊎ (n < m)
 before_or m n = grind arith
 
-module _ (hd : Header) (x : ℕ) (form : HeaderInForm hd) (there : is_some (object_line hd x) ≡ true) where
+module _ (hd : Header) (x : ℕ) (form : HeaderFits hd) (there : is_some (object_line hd x) ≡ true) where
   -- an event that restarts a node
   restart_event : (e : Asked) (w : World) (n : ℕ) → e.event ≡ event.Restart n → IsAlong hd x form there w →
       IsAlong hd x form there (run_event e w)

@@ -7,7 +7,7 @@ use Words.{Disk, Effect, tick_outs, Parts, with_coord, acts, numbers_to, parent_
 use Words.{Seen, see, is_serial}
 use Rattle.arj_law_serial.proofs.Terms
 use Terms.{Marks}
-use Terms.{HeaderInForm, object_line, Office, given, Up, Walks, IsGood, all_keep as parts_good, IsLater, Kinds, OnlyFound}
+use Terms.{HeaderFits, object_line, Office, given, Up, Walks, IsGood, all_keep as parts_good, IsLater, Kinds, OnlyFound}
 use Terms.{SeesBoth, Change, Changes, Quietly, change_by, Going, HasHeard, KeepsPart, are_recorded, going_of, goes_by, goes_along, BeginsSo}
 use Terms.Effects as machine
 use Rattle.arj_law_parts.proofs.moves.Happens.{first_holds}
@@ -84,7 +84,7 @@ module _ (hd : Header) (x : ℕ) (R : machine.World → Seen → Type 0) (P : Ki
 -- ---- every run
 
 -- as a run begins
-pub first_begins : (hd : Header) (x : ℕ) → HeaderInForm hd → is_some (object_line hd x) ≡ true → (st : Start) → IsFormed hd st →
+pub first_begins : (hd : Header) (x : ℕ) → HeaderFits hd → is_some (object_line hd x) ≡ true → (st : Start) → IsFormed hd st →
     (tops : Kinds) (A : Office) → tops.walk ≡ None → SeesBoth x tops A (see [] (world_from hd st)) →
     (let W = A.world in let S = W.disk in S.tops) ≡ [] → BeginsSo hd st.marks x (let W = A.world in W.disk)
 first_begins hd x form there st formed tops A walk both none =

@@ -1,6 +1,6 @@
 -- The lock book, by the lock machines to which journals are tied; and that journals list nodes of the header.
 use Rattle.arj_law_parts.proofs.Words.{ℕ, Header, World, world_by}
-use Rattle.arj_law_serial.proofs.Terms.{HeaderInForm, first_values, new_book, AreRight, kept_right, IsReached, Keeping, OpsFit}
+use Rattle.arj_law_serial.proofs.Terms.{HeaderFits, first_values, new_book, AreRight, kept_right, IsReached, Keeping, OpsFit}
 use Rattle.arj_law.specs.Joined.{AreCalled}
 use Rattle.arj_law_serial.proofs.joint.{Clean.includes_there, Clean.reached_tied, FitRuns.runs_in_form, Listing.all_there}
 use Rattle.arj_law_serial.proofs.order.{Order.all_called_first, Order.all_freed, Order.all_in_order, Order.all_in_time, Order.all_called}
@@ -28,12 +28,12 @@ module _ (hd : Header) (w : World) (keeping : Keeping hd w) (tied : AreTied (fir
   called_so = all_called (first_values hd) w.lines right ties
 
 -- each store that an object lists by the journal is a node of the header
-pub lists_nodes : (hd : Header) → HeaderInForm hd → (w : World) → Keeping hd w → ListedAreThere hd w.lines
+pub lists_nodes : (hd : Header) → HeaderFits hd → (w : World) → Keeping hd w → ListedAreThere hd w.lines
 lists_nodes hd form w keeping = all_there hd w.lines form (includes_there hd w keeping)
 
 -- ---- runs
 
-pub reached_book : (hd : Header) → HeaderInForm hd → (w : World) → IsReached hd w → ((x : ℕ) → OpsFit x w.lines) →
+pub reached_book : (hd : Header) → HeaderFits hd → (w : World) → IsReached hd w → ((x : ℕ) → OpsFit x w.lines) →
     KeepsTheBook (first_values hd) w.lines
 reached_book hd form w reached fit = book_so hd w reached.keeping (reached_tied hd form w reached fit)
 

@@ -3,7 +3,7 @@
 use Rattle.arj_law_parts.proofs.Words.{◌≡◌, ℕ, true, is_some, ⊤, Header, Seen}
 use Rattle.arj_law_serial.proofs.Terms
 use Terms.{IsAtStarts}
-use Terms.{HeaderInForm, first_values, object_line, IsGood, all_keep as parts_good, Keeps, HasFewBindings, KnowsFew, KeepsGiven, given_more}
+use Terms.{HeaderFits, first_values, object_line, IsGood, all_keep as parts_good, Keeps, HasFewBindings, KnowsFew, KeepsGiven, given_more}
 use Terms.{keeps_given, kept_both, IsKept, lines_keep, Office, Kinds, SeesBoth, KnowsScript, HaveEntries, KeepsPart, with_entries}
 use Terms.{part_more, AreNotLate, WithTie, knows_idle, tied_part, Run, State, Fixed, OpsFit}
 use Rattle.arj_law_disk_view.proofs.deciding_lines.Unlate.{unlate_each}
@@ -46,7 +46,7 @@ module _ (hd : Header) (x : ℕ) (R L : Seen → Type 0) (kept : Keeps hd R) (P 
 
 -- ---- both machines
 
-module _ (hd : Header) (x : ℕ) (form : HeaderInForm hd) (there : is_some (object_line hd x) ≡ true) where
+module _ (hd : Header) (x : ℕ) (form : HeaderFits hd) (there : is_some (object_line hd x) ≡ true) where
   counted : Keeps hd (Base hd x)
   counted = base hd x form there (λ M. ⊤) (λ f S M. ⊤) (λ M N l f S T run past. tt) (λ f S st formed. tt)
 

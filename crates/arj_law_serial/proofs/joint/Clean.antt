@@ -4,7 +4,7 @@ use Words.{Contains, ◌≡◌, ◌⊎◌, ◌<◌, ◌==◌, ◌&&◌, ◌||◌
 use Words.{subst, inl, inr, ⊎_elim, filter, ap, sym, ◌∙◌, Option, Some, None, In, in_find_none, in_from, in_to, Header, Line, ObjectLine}
 use Words.{World, Start, and_parts, journal_by, number_tells, uid_number, world_by, see, Wrote, DisksAre, IsSerialBy}
 use Rattle.arj_law_serial.proofs.Terms
-use Terms.{HeaderInForm, Act, acts, Top, tops, CleanFrom, Disks, marked, first_values, increasing, is_among, joins_of, leaves_of}
+use Terms.{HeaderFits, Act, acts, Top, tops, CleanFrom, Disks, marked, first_values, increasing, is_among, joins_of, leaves_of}
 use Terms.{listed_from}
 use Terms.{object_line, serial_tops, Values, new_book, AreRight, IsKept, kept_right, lines_keep, counts_of, Done, Packed}
 use Terms.{decided as decided_so, target, Core, bool_cases, IdleInPlace, first_stores, HasNothing, or_which, one_act, its_sound, IsReached}
@@ -141,7 +141,7 @@ Decides hd w held = (x : ℕ) (there : is_some (object_line hd x) ≡ true) →
     AreWritten (first_values hd) w.lines x (let S = disk_of (let h = ordered_of hd w x (held x there) in h.holds) in S.tops)
     × AreBareSo w.lines x (disk_of (let h = ordered_of hd w x (held x there) in h.holds))
 
-module _ (hd : Header) (w : World) (keeping : Keeping hd w) (form : HeaderInForm hd) (tied : AreLockTied hd w.lines) (held : Held hd w)
+module _ (hd : Header) (w : World) (keeping : Keeping hd w) (form : HeaderFits hd) (tied : AreLockTied hd w.lines) (held : Held hd w)
     (decide : Decides hd w held) where
   pub right : AreRight new_book w.lines
   right = kept_right hd w keeping
@@ -468,7 +468,7 @@ module _ (hd : Header) (w : World) (keeping : Keeping hd w) (joined : AreJoined 
         holds = (j.begun, j.alike, (λ f apart a. let z = j.seen f (a.0, (a.1, apart)) in (z.0, z.1, z.2)), j.requests);
       })
 
-  pub clean_so : HeaderInForm hd → (disks : Disks) → DisksAre (see [] w) disks → CleanFrom hd w.start.marks w.lines disks
+  pub clean_so : HeaderFits hd → (disks : Disks) → DisksAre (see [] w) disks → CleanFrom hd w.start.marks w.lines disks
   clean_so form disks are =
       let r = kept_holds hd w keeping IsKept (lines_keep hd) in
       readings_clean hd w.lines (see r.sent w) disks
@@ -477,17 +477,17 @@ module _ (hd : Header) (w : World) (keeping : Keeping hd w) (joined : AreJoined 
 
 -- ---- in each world that is reached, where answered operations are in form
 
-pub reached_both : (hd : Header) → HeaderInForm hd → (w : World) → IsReached hd w → ((x : ℕ) → OpsFit x w.lines) → AreJoined hd w
+pub reached_both : (hd : Header) → HeaderFits hd → (w : World) → IsReached hd w → ((x : ℕ) → OpsFit x w.lines) → AreJoined hd w
 reached_both hd form w reached fit x there = reached_joined hd x form there w reached (fit x)
 
-pub reached_tied : (hd : Header) → HeaderInForm hd → (w : World) → IsReached hd w → ((x : ℕ) → OpsFit x w.lines) →
+pub reached_tied : (hd : Header) → HeaderFits hd → (w : World) → IsReached hd w → ((x : ℕ) → OpsFit x w.lines) →
     AreTied (first_values hd) w.lines
 reached_tied hd form w reached fit = let t = lock_tied hd w reached.keeping (reached_both hd form w reached fit) in t.called
 
-pub reached_serial : (hd : Header) → HeaderInForm hd → (w : World) → IsReached hd w → ((x : ℕ) → OpsFit x w.lines) → IsSerialBy hd w.lines
+pub reached_serial : (hd : Header) → HeaderFits hd → (w : World) → IsReached hd w → ((x : ℕ) → OpsFit x w.lines) → IsSerialBy hd w.lines
 reached_serial hd form w reached fit = serial_so hd w reached.keeping (reached_both hd form w reached fit)
 
-pub reached_clean : (hd : Header) → HeaderInForm hd → (w : World) → IsReached hd w → ((x : ℕ) → OpsFit x w.lines) → (disks : Disks) →
+pub reached_clean : (hd : Header) → HeaderFits hd → (w : World) → IsReached hd w → ((x : ℕ) → OpsFit x w.lines) → (disks : Disks) →
     DisksAre (see [] w) disks → CleanFrom hd w.start.marks w.lines disks
 reached_clean hd form w reached fit = clean_so hd w reached.keeping (reached_both hd form w reached fit) form
 

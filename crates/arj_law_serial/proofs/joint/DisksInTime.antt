@@ -4,7 +4,7 @@ use Words.{◌≡◌, ◌∙◌, ℕ, Bool, true, false, cond, List, [], ◌∷�
 use Words.{AllByRecursion, state_entry, uid_is, uid_same, state_bytes, entry, object, uid_eq, ObjectState, Uid, In, in_from, Disk, Pair}
 use Words.{held_at, at_uid, Node, Header, World, world_by, Post, Start, see, uid_of, DiskIsInTime, HasPrepared, DisksAre, pair_in}
 use Rattle.arj_law_serial.proofs.Terms
-use Terms.{IsEntry, all_at_uid, Role, Among, HeaderInForm, Disks, Reading, first_values, is_among, IsPairOf, IsReached, Keeping}
+use Terms.{IsEntry, all_at_uid, Role, Among, HeaderFits, Disks, Reading, first_values, is_among, IsPairOf, IsReached, Keeping}
 use Terms.{AreExcludedInTime, CommitsBeginIt, IsInTime, IsOnly, OpsFit, committed_calls}
 use Terms.role
 use Rattle.arj_base.proofs.Packed.{state_once}
@@ -81,7 +81,7 @@ listed_node hd d of u st is s among =
     each_in (IsNode hd) (let e = state_entry st in e.stores) (let e = its.1 in
     e.stores) s (in_among (let e = state_entry st in e.stores) s among)
 
-module _ (hd : Header) (form : HeaderInForm hd) (w : World) (keeping : Keeping hd w) (sent : List Post) (stands : Stands hd sent w)
+module _ (hd : Header) (form : HeaderFits hd) (w : World) (keeping : Keeping hd w) (sent : List Post) (stands : Stands hd sent w)
     (named : AreSo (IsNode hd) (see sent w)) (disks : Disks) (are : DisksAre (see [] w) disks)
     (excluded : AreExcludedInTime hd w.event (see [] w)) where
   disks_so : DisksAreInTimeFrom hd w.start.marks w.event w.lines disks
@@ -116,7 +116,7 @@ module _ (hd : Header) (form : HeaderInForm hd) (w : World) (keeping : Keeping h
         lacks = out.lacks;
       }))
 
-pub reached_disks_in_time : (hd : Header) → HeaderInForm hd → (w : World) → IsReached hd w → ((x : ℕ) → OpsFit x w.lines) →
+pub reached_disks_in_time : (hd : Header) → HeaderFits hd → (w : World) → IsReached hd w → ((x : ℕ) → OpsFit x w.lines) →
     CommitsBeginIt w.event w.lines → (disks : Disks) → DisksAre (see [] w) disks → DisksAreInTimeFrom hd w.start.marks w.event w.lines disks
 reached_disks_in_time hd form w reached fit begins disks are =
     let h = reached.keeping (AreAddressed hd) (kept hd form) in

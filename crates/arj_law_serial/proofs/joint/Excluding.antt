@@ -8,7 +8,7 @@ use Words.list as members
 use Words.world
 use Words.class
 use Rattle.arj_law_serial.proofs.Terms
-use Terms.{option_map, HeaderInForm, Placed, committed, recovered, Said, Top, committed_calls, kept, tops, entry_payload, first_values}
+use Terms.{option_map, HeaderFits, Placed, committed, recovered, Said, Top, committed_calls, kept, tops, entry_payload, first_values}
 use Terms.{is_among, object_line, servers_of_line, Values, root_of, top_place, writes_on, new_book, AreRight}
 use Terms.{all_at_uid, Core, World, counts_of, Done, Hold, Packed, Plan, decided_in, last, has, in_decided, Keeping, kept_holds, SeesEntry}
 use Terms.{Among, packed, packed_entry, SeesStore, AreDecided, AreDecisions, AreNewestFirst, IsDecision, WroteSo, CommitsBeginIt, IsInTime}
@@ -273,7 +273,7 @@ newest_by_calls header e M right tied begins x is t new wrote b = record {
 
 -- ---- what stands of objects on nodes
 
-pub kept_nodes_form : (hd : Header) (x : ℕ) → HeaderInForm hd → (w : world.World) → Keeping hd w → (sent : List Post) →
+pub kept_nodes_form : (hd : Header) (x : ℕ) → HeaderFits hd → (w : world.World) → Keeping hd w → (sent : List Post) →
     NodesAreSo hd x (see sent w)
 kept_nodes_form hd x form w keeping sent k n is = let h = kept_holds hd w keeping (AreSo (kind_of hd x)) (kept_forms hd x form) in
     h.holds.0 k n is

@@ -6,7 +6,7 @@ use Words.{object, In as Among, in_find, Node, node_by, numbers_to, at_place, He
 use Words.{same_number, see, world_from}
 use Words.order
 use Rattle.arj_law_serial.proofs.Terms
-use Terms.{HeaderInForm, STORES, is_distinct, object_line, stores_of_line, value_of_line, World, Packed, decided, entry_in}
+use Terms.{HeaderFits, STORES, is_distinct, object_line, stores_of_line, value_of_line, World, Packed, decided, entry_in}
 use Terms.{last, last_entry, last_in, has, some_is, SeesEntry, IsLine, packed, packed_entry, Kinds, SeesDisks, SeesStore, first_at}
 use Terms.{has_same, place_free, BeginsSo, content_of, disk_by, marked}
 use Rattle.arj_journal.specs.ScriptForm.{ObjectLineInForm, are_by_number}
@@ -69,7 +69,7 @@ first_of n most (s ∷ ss) are =
 abbrev pub HasStoreThere : (hd : Header) (x : ℕ) → HasObject hd x → Type 0
 HasStoreThere hd x o = (nat_le 1 (let s = o.stored in s.0) && nat_le (let s = o.stored in s.0) hd.nodes) ≡ true
 
-module _ (hd : Header) (x : ℕ) (form : HeaderInForm hd) where
+module _ (hd : Header) (x : ℕ) (form : HeaderFits hd) where
   line_by : (o : Option ObjectLine) → object_line hd x ≡ o → is_some o ≡ true →
       (h : HasObject hd x) × HasStoreThere hd x h × (object_line hd x ≡ Some (let g = h in g.line))
   line_by None e some = absurd (cc some)

@@ -9,7 +9,7 @@ use Words.{worked, tick_outs, Parts, with_coord, has, Node, acts, parent_of}
 use Words.{parts_in, restart_outs, World, entry_back, same_number, Post, Seen, see, is_serial}
 use Rattle.arj_law_serial.proofs.Terms
 use Terms.{IsOlder, Marks, all_append, disk_by, entries_from, entry_by, older_at, state_by, states_from}
-use Terms.{HeaderInForm, entry_payload, first_values, object_line, servers_of_line, value_of_line, never, Keeps, In, at, given, posted}
+use Terms.{HeaderFits, entry_payload, first_values, object_line, servers_of_line, value_of_line, never, Keeps, In, at, given, posted}
 use Terms.{said, Up, Walks, Keeping, kept_holds, IsLine, first_at, HaveForm, CoordIsSo, MessageIsSo, Own, acts_so, begins_so, AllAreSo}
 use Terms.{AreSo, DiskIsSo, Kind, PartsAreSo, kind_of, listed, so_of, stored}
 use Rattle.arj_base.specs.State.{is_object_class}
@@ -84,7 +84,7 @@ filter_line test (p ∷ ps) o i = by (test p) i (filter_line test ps o)
     by true (inr more) ih = inr (ih more)
     by false more ih = inr (ih more)
 
-module _ (hd : Header) (x : ℕ) (form : HeaderInForm hd) where
+module _ (hd : Header) (x : ℕ) (form : HeaderFits hd) where
   -- a line of the object is the one that is found
   line_is : (o : ObjectLine) → IsLine o hd.objects → o.x ≡ x → object_line hd x ≡ Some o
   line_is o is same = by (object_line hd x) refl
@@ -212,7 +212,7 @@ module _ (hd : Header) (x : ℕ) (form : HeaderInForm hd) where
 pub kept_forms : FormsAreKept
 kept_forms hd x form = forms_kept hd x form
 
-pub kept_have_form : (hd : Header) (x : ℕ) → HeaderInForm hd → (w : World) → Keeping hd w → Holds hd (HaveForm hd x) w
+pub kept_have_form : (hd : Header) (x : ℕ) → HeaderFits hd → (w : World) → Keeping hd w → Holds hd (HaveForm hd x) w
 kept_have_form hd x form w keeping =
     let h = kept_holds hd w keeping (AreSo (kind_of hd x)) (forms_kept hd x form) in
     record { sent = h.sent; stands = h.stands; holds = has_form (see h.sent w) h.holds }

@@ -2,7 +2,7 @@
 -- state, and so it is the last committed one by the lock machine.
 use Rattle.arj_law_parts.proofs.Words.{◌≡◌, ℕ, true, List, Some, is_some, Header, ObjectState, object, held_at, Node, Seen}
 use Rattle.arj_law_serial.proofs.Terms
-use Terms.{HeaderInForm, first_values, object_line, Action, Office, last, undecided, packed, Kinds, SeesBoth, AreGoodCounted, KnowsScript}
+use Terms.{HeaderFits, first_values, object_line, Action, Office, last, undecided, packed, Kinds, SeesBoth, AreGoodCounted, KnowsScript}
 use Terms.{AreNotLate, IsKept, state_code, IsSeenIn, Fixed, case_of, AreVotedAt, KnowsWhole, BeginsSo, AgreesApart, AreSo, kind_of}
 use Terms.{AreApart, OpsFit, ArePlannedSo, SeesRecorded, AreTurnsOf}
 use Terms.state as lock
@@ -44,6 +44,6 @@ pub record IsLastThere (x : ℕ) (A : Office) (M : Seen) (st : ObjectState) : Ty
 
 -- So a state of an object of the header is the last committed one by the lock machine, and nothing is in doubt.
 abbrev pub LastThereIsLast : Type 0
-LastThereIsLast = (hd : Header) (f : Fixed) (x : ℕ) (begun : List Action) (S : lock.State) (M : Seen) → HeaderInForm hd →
+LastThereIsLast = (hd : Header) (f : Fixed) (x : ℕ) (begun : List Action) (S : lock.State) (M : Seen) → HeaderFits hd →
     is_some (object_line hd x) ≡ true → (b : AreBeside hd f x begun S M) (st : ObjectState) → IsLastThere x (let k = b in k.office) M st
     → LoadsTheLast S (state_code f.act f.code st)

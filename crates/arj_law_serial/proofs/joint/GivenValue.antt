@@ -6,7 +6,7 @@ use Words.{eqb-true, and_parts, writes, in_to, number_tells, Header, ObjectState
 use Words.{uid_number, Node, Seen, ValueInForm, Wrote}
 use Words.list
 use Rattle.arj_law_serial.proofs.Terms
-use Terms.{HeaderInForm, writes_conflict, Act, acts, committed_calls, tops, first_values, top_place, writes_on, Action, Done}
+use Terms.{HeaderFits, writes_conflict, Act, acts, committed_calls, tops, first_values, top_place, writes_on, Action, Done}
 use Terms.{Packed, decided_in, last, never, in_decided, packed, book, is_decided, is_top, new_book, IsDone, AreRight, one_act, stands_lines}
 use Terms.{stands_new, act_there, its_acts, its_sound, top, Alive, Call, State, IsLast, Newest, Survives, newest, older, lives, on_top}
 use Terms.{top_action, top_is, votes_are_right, AreOne, state_code, Fixed, IsTied, IsPlannedSo, IsCalledFirst}
@@ -240,7 +240,7 @@ module _ (hd : Header) (f : Fixed) (x : ℕ) (begun : List Action) (S : State) (
         same_act y k in_y in_k same = one_act (acts M.lines) (let q = its_sound M.lines its_right in q.distinct) y k in_y in_k same
 
     -- what it gave is what the newest surviving call left, so it is in form
-    gave_in_form : HeaderInForm hd → Newest S.initial (Survives S) (let g = S.vote (f.act u) in g.value) S.calls → ValueInForm voted.0
+    gave_in_form : HeaderFits hd → Newest S.initial (Survives S) (let g = S.vote (f.act u) in g.value) S.calls → ValueInForm voted.0
     unfolding tie its_tied
     gave_in_form form last =
         let survives : Survives S (let c = voted.5 in c.act) = theirs_survive (holds hd f x begun S M b) (values hd f x begun S M b)
@@ -250,7 +250,7 @@ module _ (hd : Header) (f : Fixed) (x : ℕ) (begun : List Action) (S : State) (
         d.2 in
         subst ValueInForm (b.apart k.0 voted.0 (top (let c = d.0 in c.act)) voted.1 (sym k.2 ∙ d.3 ∙ voted.2)).0 k.1
 
-    pub newest_wrote : HeaderInForm hd → (st : ObjectState) → st.writer ≡ u → packed st ≡ z.state →
+    pub newest_wrote : HeaderFits hd → (st : ObjectState) → st.writer ≡ u → packed st ≡ z.state →
         IsLast S (state_code f.act f.code st) S.calls
     newest_wrote form st writer same =
         let given = newest_is_last (holds hd f x begun S M b) (values hd f x begun S M b) (low hd f x begun S M b) (f.act u) is three

@@ -7,7 +7,7 @@ use Terms.{IsAtStarts, Marks}
 use Terms.{IsKnownJoined, SeesRecorded, IsPaired, NodesAreThere, keeps_given, kept_both, lines_keep, Keeps, KeepsPart, KnowsFew, KnowsWhole}
 use Terms.{Packed, World, Action, first_values, object_line, HasObject, part_more, knows_idle, tied_part, IsKept, AreGoodCounted}
 use Terms.{KnowsScript}
-use Terms.{HeaderInForm, Run, State, Fixed, GivesLocks, Kinds, Office, IsKnownEarly, HaveEntries, with_entries, world_at, AreSo, kind_of}
+use Terms.{HeaderFits, Run, State, Fixed, GivesLocks, Kinds, Office, IsKnownEarly, HaveEntries, with_entries, world_at, AreSo, kind_of}
 use Terms.{OpsFit, IsApt}
 use Rattle.arj_law_disk_view.proofs.running
 use running.{HeardKept.heard_kept, ListedKept.WithLists, ListedKept.listed_part}
@@ -54,7 +54,7 @@ abbrev recorded_of : (hd : Header) (x : ℕ) (tops : Kinds) (A : Office) (M : Se
 recorded_of hd x tops A M p = p.0.0.0
 
 -- so a store gives the last committed state to who waits for it
-gives_last : (hd : Header) (x : ℕ) → HeaderInForm hd → is_some (object_line hd x) ≡ true → (L : Seen → Type 0) (Past : Fixed → State →
+gives_last : (hd : Header) (x : ℕ) → HeaderFits hd → is_some (object_line hd x) ≡ true → (L : Seen → Type 0) (Past : Fixed → State →
     Seen → Type 0) → StoresGive (first_values hd) x (λ W M. Early hd x W M × L M) (Whole x) Past (Carried hd x)
 gives_last hd x form there L Past tops A s walk r both part j f agrees from m v outs come to z a st k out is w current =
     last_there_is_last hd f x j.0 (j.3 f agrees).0 (world_at s) form there beside st
@@ -86,7 +86,7 @@ gives_last hd x form there L Past tops A s walk r both part j f agrees from m v 
           housed = (let n = b.0.1 in n.labels);
         }
 
-module _ (hd : Header) (x : ℕ) (form : HeaderInForm hd) (there : is_some (object_line hd x) ≡ true) where
+module _ (hd : Header) (x : ℕ) (form : HeaderFits hd) (there : is_some (object_line hd x) ≡ true) where
   has : HasObject hd x
   has = header_has hd x there
 

@@ -2,7 +2,7 @@
 use Rattle.arj_law_parts.proofs.Words.{List, subst, Post, Seen, see, World, world_by, ⊤, ℕ, true, ◌≡◌, is_some, Header}
 use Rattle.arj_law_serial.proofs.Terms
 use Terms.{IsJoinedSo, world_of, IncludersTakeTurns, KeepsPart, Kinds, Office, first_values, object_line, new_book, AreRight, kept_right}
-use Terms.{RequestsAreOne, part_more, State, Fixed, OpsFit, IsReached, HeaderInForm, kept_nodes}
+use Terms.{RequestsAreOne, part_more, State, Fixed, OpsFit, IsReached, HeaderFits, kept_nodes}
 use Terms.Effects as machine
 use Rattle.arj_law_disk_view.proofs.running.{Copies.copies_agree, ListedRuns.loads_there}
 use Rattle.arj_law_parts.specs.moves.Keeps.{Holds}
@@ -16,7 +16,7 @@ use Rattle.arj_law_serial.specs.joint.Joined.{RunsAreJoined}
 
 -- ---- the law
 
-pub reached_joined : (hd : Header) (x : ℕ) → HeaderInForm hd → is_some (object_line hd x) ≡ true → (w : World) → IsReached hd w →
+pub reached_joined : (hd : Header) (x : ℕ) → HeaderFits hd → is_some (object_line hd x) ≡ true → (w : World) → IsReached hd w →
     OpsFit x w.lines → Holds hd (IsJoinedSo hd x) w
 reached_joined hd x form there w reached fit =
     let h = ordered_beside hd x (OpsFit x) (fits_before x) (Base hd x) Joined form there

@@ -4,7 +4,7 @@ use Words.{◌≡◌, ◌⊎◌, ◌==◌, ◌&&◌, ◌++◌, ℕ, List, [], �
 use Words.{inl, inr, ⊎_elim, eqb-true, is_some, length, nat_le, list_all, and_parts, In, in_filter, in_filter_map, in_find, in_to, Header}
 use Words.{Line, ObjectLine}
 use Rattle.arj_law_serial.proofs.Terms
-use Terms.{HeaderInForm, STORES, Act, Placed, chain_in, committed, has_end, top_in, Top, Inclusion, included, increasing, insert_number}
+use Terms.{HeaderFits, STORES, Act, Placed, chain_in, committed, has_end, top_in, Top, Inclusion, included, increasing, insert_number}
 use Terms.{is_among, joins_by, joins_of, leaves_of, listed_after, listed_from, object_line, serial_tops, stores_of_line, is_distinct}
 use Terms.{or_which, IncludesAreThere}
 use Rattle.arj_law_serial.proofs.joint.Firsts.{form_of, line_in}
@@ -47,7 +47,7 @@ each_node n (m ∷ ns) all s (inl same) = subst (λ k. (nat_le 1 k && nat_le k n
 each_node n (m ∷ ns) all s (inr i) =
     each_node n ns (and_parts (nat_le 1 m && nat_le m n) (list_all (λ k. nat_le 1 k && nat_le k n) ns) all).1 s i
 
-module _ (hd : Header) (lines : List Line) (form : HeaderInForm hd) (includes : IncludesAreThere hd lines) (x : ℕ) where
+module _ (hd : Header) (lines : List Line) (form : HeaderFits hd) (includes : IncludesAreThere hd lines) (x : ℕ) where
   abbrev All : List ℕ → Type 0
   All ns = (s : ℕ) → In s ns → AreThere hd x s
 

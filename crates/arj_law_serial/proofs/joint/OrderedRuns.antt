@@ -3,7 +3,7 @@ use Rattle.arj_law_parts.proofs.Words
 use Words.{◌≡◌, ◌⊎◌, ℕ, List, [], ◌∷◌, true, ◌∙◌, ap, subst, inl, inr, is_some, not, sym, ◌&&◌, ◌||◌, Bool, false, filter, None, Some}
 use Words.{Contains, In, in_from, in_to, Header, Line, Uid, first_uid, World, Seen, Post, see, uid_number, number_tells}
 use Rattle.arj_law_serial.proofs.Terms
-use Terms.{HeaderInForm, Act, acts as acts_of, path, uids, increasing, is_among, joins_of, leaves_of, object_line, Office, Done, Plan}
+use Terms.{HeaderFits, Act, acts as acts_of, path, uids, increasing, is_among, joins_of, leaves_of, object_line, Office, Done, Plan}
 use Terms.{decided, decided_in, target, never, or_right, in_decided, Keeps, Kinds, KeepsPart, book, is_decided, is_top, new_book, IsIdle}
 use Terms.{HasNothing, IsKept, IsSound, AreRight, idle_has_nothing, kept_right, is_sound, IsDoneBy, IsKnownEarly, IsPlain, WithTie}
 use Terms.{KnowsIdle, tied_part, BeginsSo, AreCalled, AreOnce, AreDim, AreSpared, AreStill, AreTurns, AreTurnsOf, IsCalledFirst, IsOrdered}
@@ -204,7 +204,7 @@ abbrev Marking : (Seen → Type 0) → Seen → Type 0
 Marking R M = R M × (Saying M × (MarksAreAsked M × ArePartedNow M))
 
 pub ordered_beside : (hd : Header) (x : ℕ) (Fits : List Line → Type 0) → WasBefore Fits → (R : Seen → Type 0) (P : Kinds → Office → Seen →
-    Type 0) → HeaderInForm hd → is_some (object_line hd x) ≡ true → Keeps hd R → KeepsPart hd x (λ W M. R M × IsKnownEarly Fits W M) P →
+    Type 0) → HeaderFits hd → is_some (object_line hd x) ≡ true → Keeps hd R → KeepsPart hd x (λ W M. R M × IsKnownEarly Fits W M) P →
     (w : World) → IsReached hd w → Fits w.lines → Holds hd (IsOrderedBeside R P hd x) w
 ordered_beside hd x Fits before R P form there kept parts w reached fits =
     let first : KeepsPart hd x (λ W M. Marking R M × IsKnownEarly Fits W M) (WithFirst hd x (WithMarks x P)) = first_part hd x

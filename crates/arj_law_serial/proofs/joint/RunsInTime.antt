@@ -1,7 +1,7 @@
 -- Stores are excluded in time, where both machines of each object are tied to the journal.
 use Rattle.arj_law_parts.proofs.Words.{◌≡◌, ℕ, true, [], is_some, Header, World, world_by, see}
 use Rattle.arj_law_serial.proofs.Terms
-use Terms.{HeaderInForm, new_book, AreRight, kept_right, first_values, object_line, IsReached, Keeping, AreExcludedInTime, CommitsBeginIt}
+use Terms.{HeaderFits, new_book, AreRight, kept_right, first_values, object_line, IsReached, Keeping, AreExcludedInTime, CommitsBeginIt}
 use Terms.{IsSeenSo, OpsFit}
 use Rattle.arj_law_serial.proofs.joint
 use joint.{CommitCalls.commits_begin, FitRuns.runs_in_form, Knowing.none_last, NamedTops.AreLockTied, Takers.takers}
@@ -10,7 +10,7 @@ use joint.Excluding.{is_in_time, kept_nodes_form, newest_by_calls}
 use Rattle.arj_law_serial.proofs.order.Ties.{Ties, ties_of}
 use Rattle.arj_law_serial.specs.joint.InTime.{RunsExcludeInTime}
 
-module _ (hd : Header) (w : World) (keeping : Keeping hd w) (form : HeaderInForm hd) (tied : AreLockTied hd w.lines) (held : Held hd w)
+module _ (hd : Header) (w : World) (keeping : Keeping hd w) (form : HeaderFits hd) (tied : AreLockTied hd w.lines) (held : Held hd w)
     (decide : Decides hd w held) (begins : CommitsBeginIt w.event w.lines) where
   right : AreRight new_book w.lines
   right = kept_right hd w keeping
@@ -45,12 +45,12 @@ module _ (hd : Header) (w : World) (keeping : Keeping hd w) (form : HeaderInForm
       is_in_time hd w.event (see h.sent w) right ties x i t new wrote newest s n m st at_naming at_store held_there has_it
 
 -- with both machines at once
-pub in_time_so : (hd : Header) (w : World) → Keeping hd w → AreJoined hd w → HeaderInForm hd → CommitsBeginIt w.event w.lines →
+pub in_time_so : (hd : Header) (w : World) → Keeping hd w → AreJoined hd w → HeaderFits hd → CommitsBeginIt w.event w.lines →
     AreExcludedInTime hd w.event (see [] w)
 in_time_so hd w keeping joined form begins =
     in_time hd w keeping form (lock_tied hd w keeping joined) (held_in hd w keeping joined) (decides_in hd w keeping joined) begins
 
-pub reached_in_time : (hd : Header) → HeaderInForm hd → (w : World) → IsReached hd w → ((x : ℕ) → OpsFit x w.lines) →
+pub reached_in_time : (hd : Header) → HeaderFits hd → (w : World) → IsReached hd w → ((x : ℕ) → OpsFit x w.lines) →
     CommitsBeginIt w.event w.lines → AreExcludedInTime hd w.event (see [] w)
 reached_in_time hd form w reached fit = in_time_so hd w reached.keeping (reached_both hd form w reached fit) form
 

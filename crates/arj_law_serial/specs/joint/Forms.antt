@@ -4,7 +4,6 @@ use Rattle.std.specs.List.{AllByRecursion}
 use Rattle.arj_base.specs.Uid.{entry, object}
 use Rattle.arj_base.specs.declared.state.Format.{Format}
 use Rattle.arj_class.specs.Table.{own_class}
-use Rattle.arj_journal.specs.ScriptForm.{HeaderInForm}
 use Rattle.arj_model.specs.Last.{entry_payload, first_values, object_line, servers_of_line}
 use Rattle.arj_protocol.specs.Words.{Class, Header, ObjectState, Uid, Value}
 use Rattle.arj_protocol.specs.Words.class
@@ -19,7 +18,7 @@ use Rattle.arj_law_disk_view.specs.running.States.{CoordIsSo, Fits, MessageIsSo,
 use Rattle.arj_law_parts.specs.moves.Keeps.{Keeps}
 use Rattle.arj_start.specs.Start.{format_at}
 use Rattle.arj_law_parts.specs.moves.Seen.{In}
-use Rattle.arj_promise.specs.Runs.{Post, Seen}
+use Rattle.arj_promise.specs.Runs.{HeaderFits, Post, Seen}
 
 -- ---- states
 
@@ -122,4 +121,4 @@ kind_of hd x = record { x = x; class = own_class (first_values hd x); servers = 
 
 -- each handler keeps it
 abbrev pub FormsAreKept : Type 0
-FormsAreKept = (hd : Header) (x : ℕ) → HeaderInForm hd → Keeps hd (AreSo (kind_of hd x))
+FormsAreKept = (hd : Header) (x : ℕ) → HeaderFits hd → Keeps hd (AreSo (kind_of hd x))

@@ -1,13 +1,12 @@
 -- Which readings are those of nodes' disks, and what they show of them.
 use Rattle.std.specs.Prelude.{◌≡◌, ◌&&◌, ℕ, true, List, Contains, is_some, nat_le}
-use Rattle.arj_journal.specs.ScriptForm.{HeaderInForm}
 use Rattle.arj_model.specs.Actions.{Placed}
 use Rattle.arj_model.specs.Disks.{Disks}
 use Rattle.arj_model.specs.Last.{Inclusion, included, is_among, listed, object_line}
 use Rattle.arj_protocol.specs.Words.{Header, Line}
 use Rattle.arj_protocol.specs.World.{World}
 use Rattle.arj_law_parts.specs.moves.Keeps.{Stands}
-use Rattle.arj_promise.specs.Runs.{Post, see}
+use Rattle.arj_promise.specs.Runs.{HeaderFits, Post, see}
 use Rattle.arj_law_serial.specs.order.Readings.{AreShown}
 use Rattle.arj_promise.specs.Disks.{DisksAre}
 
@@ -26,9 +25,9 @@ ListedAreThere hd lines = (x s : ℕ) → is_among (listed hd lines x) s ≡ tru
 
 -- where included stores are nodes of the header each store that an object lists is
 abbrev pub IncludesAreListed : Type 0
-IncludesAreListed = (hd : Header) (lines : List Line) → HeaderInForm hd → IncludesAreThere hd lines → ListedAreThere hd lines
+IncludesAreListed = (hd : Header) (lines : List Line) → HeaderFits hd → IncludesAreThere hd lines → ListedAreThere hd lines
 
 -- Readings of the disks of a world that stands show its pairs.
 abbrev pub ReadingsShowPairs : Type 0
-ReadingsShowPairs = (hd : Header) (sent : List Post) (w : World) (disks : Disks) → HeaderInForm hd → Stands hd sent w →
+ReadingsShowPairs = (hd : Header) (sent : List Post) (w : World) (disks : Disks) → HeaderFits hd → Stands hd sent w →
     IncludesAreThere hd w.lines → DisksAre (see sent w) disks → AreShown hd w.lines (see sent w) disks

@@ -20,15 +20,14 @@ use Rattle.arj_law_runs.specs.follow.Refusals.{names_action}
 use Rattle.arj_law_cause.proofs.follow.causes.{Counting.Counts, Counting.counts_kept, Reasons.Has, Reasons.agrees, Trees.children_so}
 use Rattle.arj_law_cause.proofs.follow.causes.{Trees.deep_so, Trees.many_so, Trees.serial_so}
 use Rattle.arj_law_cause.specs.follow.causes.Refusals.{TreeRefusalsStep, asks_object, doomed, is_met, is_tree_cause, not_waiting, too_many}
-use Rattle.arj_journal.specs.ScriptForm.{HeaderInForm}
 use Rattle.arj_model.specs.Follows.{Runs}
 use Rattle.arj_model.specs.Past.{Past, at_start, is_refused}
 use Rattle.arj_model.specs.Refusals as model
-use Rattle.arj_promise.specs.Runs.{IsStoppedInForm, Run}
+use Rattle.arj_promise.specs.Runs.{HeaderFits, IsStoppedInForm, Run}
 use Rattle.arj_promise.specs.Starts.{IsFormed}
 use Rattle.arj_protocol.specs.Step.{is_misplaced}
 
-module _ (hd : Header) (form : HeaderInForm hd) where
+module _ (hd : Header) (form : HeaderFits hd) where
   -- a run up to an event, whose coordinators count their actions
   pub record Stands (p : Past) (w : World) : Type 0 where
     pub base : refusing.Stands hd form p w

@@ -32,11 +32,10 @@ use Steps.{IsBack, IsCommitLine, IsTaken, Nothing, abort_tells, call_tells, comm
 use Steps.{loses, restart_tells}
 use Rattle.arj_law_cause.proofs.follow.lines.Working.{works}
 use Rattle.arj_law_cause.specs.follow.lines.Lines.{BeginsCommitSo}
-use Rattle.arj_journal.specs.ScriptForm.{HeaderInForm}
 use Rattle.arj_model.specs.Own as own
 use Rattle.arj_model.specs.Past.{Past}
 use Rattle.arj_model.specs.Refusals as model
-use Rattle.arj_promise.specs.Runs.{IsStoppedInForm}
+use Rattle.arj_promise.specs.Runs.{HeaderFits, IsStoppedInForm}
 use Rattle.arj_protocol.specs.World as world
 use Rattle.arj_law_cause.proofs.follow.lines.Labels.{label_is, receiver_is, to_node}
 use Rattle.arj_law_cause.proofs.follow.lines.Several.{node_adds, tick_of}
@@ -50,7 +49,7 @@ count_so hd w next k n there v live = (λ i. count_of (its.node i) (its.inc i) (
     its = let good = next.holds.0.0.0 in let place = good.1.places k n there in
         subst (IsMemory good.0 next.sent w.labels k (let d = n.disk in d.inc)) live place.memory
 
-module _ (hd : Header) (form : HeaderInForm hd) where
+module _ (hd : Header) (form : HeaderFits hd) where
   module _ (m : Move) (p : Past) (w : World) (stops : IsStoppedInForm m) (s : shorts.Stands hd form p w) (on : w.over ≡ false) where
     abbrev arm : Arm
     arm = let a = m.asked in a.arm

@@ -42,7 +42,6 @@ use Steps.{IsTaken, Nothing, finds, loses}
 use Rattle.arj_law_cause.proofs.follow.lines.Showing.{shown_line, shows_all}
 use Rattle.arj_law_cause.proofs.follow.lines.Working.{works}
 use Rattle.arj_law_cause.specs.follow.lines.Lines.{BeginsSo, HasLines, LinesStep, NetFits, is_show, may_stand_or_lose, is_of_net}
-use Rattle.arj_journal.specs.ScriptForm.{HeaderInForm}
 use Rattle.arj_model.specs.CauseNodes.{restarts}
 use Rattle.arj_model.specs.CauseSpans.{Here, here_at}
 use Rattle.arj_model.specs.Follows.{Accepted, Runs, is_limited}
@@ -51,7 +50,7 @@ use Rattle.arj_model.specs.Own as own
 use Rattle.arj_model.specs.Own.{Begins, Ends, MayMeetLimit, halts_fit, may_stand}
 use Rattle.arj_model.specs.Past.{Asked as AskedOf, Past, asked_of, at_start, block, is_refused, next}
 use Rattle.arj_model.specs.Refusals as model
-use Rattle.arj_promise.specs.Runs.{IsStoppedInForm, Run}
+use Rattle.arj_promise.specs.Runs.{HeaderFits, IsStoppedInForm, Run}
 use Rattle.arj_promise.specs.Starts.{IsFormed}
 use Rattle.arj_start.specs.Start.{Start}
 use Rattle.arj_protocol.specs.World as world
@@ -68,7 +67,7 @@ is_commit e = false
 
 -- ---- runs
 
-module _ (hd : Header) (form : HeaderInForm hd) where
+module _ (hd : Header) (form : HeaderFits hd) where
   module _ (m : Move) (p : Past) (w : World) (stops : IsStoppedInForm m) (s : shorts.Stands hd form p w) (on : w.over ≡ false) where
     abbrev arm : Arm
     arm = let a = m.asked in a.arm

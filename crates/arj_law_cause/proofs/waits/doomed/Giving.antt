@@ -18,7 +18,7 @@ use Rattle.arj_law_parts.specs.moves.Moments.{Asking, History}
 use Rattle.arj_law_parts.specs.moves.Seen as seen
 use Rattle.arj_law_runs.proofs.Terms
 use Terms.{found_by, IsAsking, IsBusy, IsNumbered, IsSent, StandsOn}
-use Rattle.arj_journal.specs.ScriptForm.{HeaderInForm}
+use Rattle.arj_promise.specs.Runs.{HeaderFits}
 use Rattle.arj_model.specs.CauseSpans.{is_call, is_frame, same_frame}
 use Rattle.arj_model.specs.Past.{Asked as AskedOf, Past}
 use Rattle.arj_model.specs.Refusals.{asks_by, is_ask_by, last_asked}
@@ -107,7 +107,7 @@ call_goal (calls.Include n) (AtInvoke q i) kept stands is l x = absurd stands
 
 -- ---- one giveup
 
-module _ (hd : Header) (form : HeaderInForm hd) (g : History) (p : Past) (w : World) (s : Stands hd form g p w) (on : w.over ≡ false)
+module _ (hd : Header) (form : HeaderFits hd) (g : History) (p : Past) (w : World) (s : Stands hd form g p w) (on : w.over ≡ false)
     (k : ℕ) (n : Node) (t : Parts) (there : at_place k w.nodes ≡ Some n) (live : n.live ≡ Some t) where
   -- who waits isn't a serializing action
   plain_kind : (k : Kind) → (k ≡ kind.Serial → ⊥) → is_serial k ≡ false

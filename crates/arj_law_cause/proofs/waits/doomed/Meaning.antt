@@ -16,7 +16,7 @@ use Rattle.arj_law_parts.specs.steps.Writes.{node_refusal}
 use Rattle.arj_law_runs.proofs.Terms.{Act, acts, act_in}
 use Rattle.arj_law_runs.proofs.follow.Reasons.{joined, refused_by_any}
 use Rattle.arj_law_runs.proofs.journal.{Beginning.named_at, Closed.one_act}
-use Rattle.arj_journal.specs.ScriptForm.{HeaderInForm}
+use Rattle.arj_promise.specs.Runs.{HeaderFits}
 use Rattle.arj_model.specs.CauseSpans.{is_doomed}
 use Rattle.arj_model.specs.Follows.{label_doomed}
 use Rattle.arj_model.specs.Past.{Past}
@@ -29,7 +29,7 @@ use Rattle.arj_law_cause.specs.waits.doomed.Dooms.{IsToldDoomed}
 
 -- ---- doomed branches
 
-module _ (hd : Header) (form : HeaderInForm hd) (g : History) (p : Past) (w : World) (s : Stands hd form g p w) (on : w.over ≡ false) where
+module _ (hd : Header) (form : HeaderFits hd) (g : History) (p : Past) (w : World) (s : Stands hd form g p w) (on : w.over ≡ false) where
   pub told_doomed : (k : ℕ) (n : Node) (t : Parts) → at_place k w.nodes ≡ Some n → n.live ≡ Some t → (l : Label) (b : Branch) →
       branch_named l t.coord ≡ Some b → b.doomed ≡ true → IsToldDoomed p (name l)
   told_doomed k n t there live l b named doomed =

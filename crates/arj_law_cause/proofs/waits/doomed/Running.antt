@@ -34,12 +34,11 @@ use Rattle.arj_law_runs.proofs.kept.Starts.{first_up}
 use Rattle.arj_law_serial.proofs.Terms.{disk_by}
 use Rattle.arj_law_runs.specs.addresses.Binds.{BindsAreKnown}
 use Rattle.arj_law_promise.proofs.settling.Waiting.{AllKnown}
-use Rattle.arj_journal.specs.ScriptForm.{HeaderInForm}
 use Rattle.arj_model.specs.Follows.{label_doomed}
 use Rattle.arj_model.specs.Past.{Past, asked_of, at_start, block, is_refused, next}
 use Rattle.arj_model.specs.Refusals.{is_ask_by}
 use Rattle.arj_protocol.specs.Step.{refusal_at}
-use Rattle.arj_promise.specs.Runs.{IsStoppedInForm}
+use Rattle.arj_promise.specs.Runs.{HeaderFits, IsStoppedInForm}
 use Rattle.arj_promise.specs.Starts.{IsFormed}
 use Rattle.arj_law_cause.proofs.follow.causes.Turning.{of_acts}
 use Rattle.arj_law_cause.proofs.follow.lines.Saying.{Adds}
@@ -90,7 +89,7 @@ abbrev begins_doom : List Body → Bool
 begins_doom [] = false
 begins_doom (b ∷ bs) = is_doom b
 
-module _ (hd : Header) (form : HeaderInForm hd) where
+module _ (hd : Header) (form : HeaderFits hd) where
   abbrev Doomed : Past → Uid → Type 0
   Doomed p u = IsDoomedSo p.accepted p.lines u
 

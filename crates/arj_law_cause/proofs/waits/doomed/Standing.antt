@@ -7,7 +7,7 @@ use Rattle.arj_law_parts.specs.moves.With.{HoldsWith}
 use Rattle.arj_law_runs.proofs.Terms.{Holds, IsGood}
 use Rattle.arj_law_runs.specs.addresses.Binds.{BindsAreKnown}
 use Rattle.arj_law_promise.proofs.settling.Waiting.{AllKnown}
-use Rattle.arj_journal.specs.ScriptForm.{HeaderInForm}
+use Rattle.arj_promise.specs.Runs.{HeaderFits}
 use Rattle.arj_model.specs.Past.{Past}
 use Rattle.arj_law_cause.proofs.follow.causes.Turning.{of_heard}
 use Rattle.arj_law_cause.proofs.waits.doomed.Behind.{BasedBehind}
@@ -21,7 +21,7 @@ pub flags_hear : (D : Uid → Type 0) (from : ℕ) (a : Asked) (r : Reply) (inte
     Flags D (heard from a r intents c).part.tree
 flags_hear D from a r intents c its = of_heard (Flags D) (flags_ended D) from a r intents c its
 
-module _ (hd : Header) (form : HeaderInForm hd) where
+module _ (hd : Header) (form : HeaderFits hd) where
   -- so it is in the world, where of each doomed action this holds
   abbrev pub Ways : (Uid → Type 0) → World → Type 0
   Ways D w = walking.Stands hd form (Flags D) (flags_hear D) (flags_begun D) (flags_new D) w

@@ -21,7 +21,7 @@ use Terms.{AreBrought, Asking, HasWay, Want, Holds, In, IsGood, KeepsAsked, Up, 
 use Terms.{want_of_call}
 use Terms.{want_of_commit}
 use Terms.{AnswersWaits}
-use Rattle.arj_journal.specs.ScriptForm.{HeaderInForm}
+use Rattle.arj_promise.specs.Runs.{HeaderFits}
 use Rattle.arj_law_parts.specs.moves.Keeps.{AsksNode}
 use Rattle.arj_law_promise.proofs.settling.Waiting.{AllKnown, all_answer, all_kept}
 use Rattle.arj_law_runs.proofs.coordinators.{CoordRooms.acked_tree, CoordRooms.again_tree, CoordUses.some_is}
@@ -164,7 +164,7 @@ Comes hd sent k i = AsksNode hd i
 
 -- ---- worlds
 
-module _ (hd : Header) (form : HeaderInForm hd) (P : Tree → Type 0) (hears : (from : ℕ) (a : Asked) (r : Reply) (intents : List (Uid ×
+module _ (hd : Header) (form : HeaderFits hd) (P : Tree → Type 0) (hears : (from : ℕ) (a : Asked) (r : Reply) (intents : List (Uid ×
     Words.Intent)) (c : Coord) → P c.tree → P (heard from a r intents c).part.tree)
     (begins : (how : Kind) (parent : Option Words.Branch) (t : Tree) → P t → P (begun how parent t))
     (fresh : (n inc : ℕ) → P (new_tree n inc)) where

@@ -16,7 +16,7 @@ use Words.kind
 use Rattle.arj_law_parts.proofs.moves.{Places.all_placed, Reasons.first_not, Reasons.not_not}
 use Rattle.arj_law_runs.proofs.Terms
 use Terms.{Holds, IsGood, IsSent, KeepsAsked, deliver_holds, is_act, says, steps_hold}
-use Rattle.arj_journal.specs.ScriptForm.{HeaderInForm}
+use Rattle.arj_promise.specs.Runs.{HeaderFits}
 use Rattle.arj_law_promise.proofs.settling.Waiting.{AllKnown}
 use Rattle.arj_law_runs.proofs.resting.Worlds.{settle_full, steps_full}
 use Rattle.arj_protocol.specs.World as world
@@ -34,7 +34,7 @@ Rest fuel w o = elim o [ None ↦ w | Some k ↦ settle_for fuel (deliver k w) ]
 never_acts : {A : Type 0} (i : Input) → is_act i ≡ false → is_act i ≡ true → A
 never_acts i off is = let no_way : true ≡ false = sym is ∙ off in absurd (cc no_way)
 
-module _ (hd : Header) (form : HeaderInForm hd) (P : Tree → Type 0) (hears : (from : ℕ) (a : Asked) (r : Reply) (intents : List (Uid ×
+module _ (hd : Header) (form : HeaderFits hd) (P : Tree → Type 0) (hears : (from : ℕ) (a : Asked) (r : Reply) (intents : List (Uid ×
     Intent)) (c : Coord) → P c.tree → P (heard from a r intents c).part.tree)
     (begins_so : (how : Kind) (parent : Option Branch) (t : Tree) → P t → P (begun how parent t))
     (fresh : (n inc : ℕ) → P (new_tree n inc)) where

@@ -18,7 +18,7 @@ use Rattle.arj_law_runs.proofs.Terms
 use Terms.{AsksFor, IsNumbered, Want, found_by, want_of_call, want_of_commit}
 use Rattle.arj_law_runs.specs.journal.Book.{new_book}
 use Rattle.arj_law_runs.specs.journal.Right.{AreRight}
-use Rattle.arj_journal.specs.ScriptForm.{HeaderInForm}
+use Rattle.arj_promise.specs.Runs.{HeaderFits}
 use Rattle.arj_journal.specs.declared.body.FrameKind.{FrameKind}
 use Rattle.arj_model.specs.Calls.{committings}
 use Rattle.arj_model.specs.CauseSpans.{Here, commit_here, here_at, is_frame, same_frame}
@@ -163,7 +163,7 @@ given_left (Confirming p) rise j (inr i) = absurd i
 
 -- ---- one action
 
-module _ (hd : Header) (form : HeaderInForm hd) (g : History) (p : Past) (w : World) (s : Stands hd form g p w) (on : w.over ≡ false)
+module _ (hd : Header) (form : HeaderFits hd) (g : History) (p : Past) (w : World) (s : Stands hd form g p w) (on : w.over ≡ false)
     (k : ℕ) (n : Node) (t : Parts) (there : at_place k w.nodes ≡ Some n) (live : n.live ≡ Some t)
     (u : Uid) (d : Doing) (does : doing_of u t.coord ≡ Some d) (accepted : List AskedOf) (same : AreAsked accepted g.askings) where
   pub f : acting.Stands (let h = s.base.base.halts in see h.sent w) (let h = s.base.base.halts in h.holds) k n t there live u d

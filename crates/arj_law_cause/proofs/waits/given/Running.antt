@@ -17,13 +17,12 @@ use Rattle.arj_law_runs.proofs.follow.Refusing as refusing
 use Rattle.arj_law_runs.proofs.follow.Refusing.{Came, IsRefused, IsRun, same_bodies}
 use Rattle.arj_law_runs.proofs.follow.Walking.{behind_all}
 use Rattle.arj_law_runs.specs.follow.Frames.{are_so, run_events}
-use Rattle.arj_journal.specs.ScriptForm.{HeaderInForm}
 use Rattle.arj_model.specs.Actions.{Act, act_in, acts}
 use Rattle.arj_model.specs.Follows.{Runs}
 use Rattle.arj_model.specs.CauseSpans.{Here, here_at}
 use Rattle.arj_model.specs.Past.{Asked as AskedOf, Past, asked_of, at_start, block, is_refused, next}
 use Rattle.arj_model.specs.Refusals.{asks_by, is_ask_by, is_committing}
-use Rattle.arj_promise.specs.Runs.{IsInForm, IsStoppedInForm, Run, journal_by}
+use Rattle.arj_promise.specs.Runs.{HeaderFits, IsInForm, IsStoppedInForm, Run, journal_by}
 use Rattle.arj_promise.specs.Starts.{IsFormed}
 use Rattle.arj_law_lock_view.specs.asking.Asked.{accepted_of}
 use Rattle.arj_law_cause.proofs.follow.causes.{Reasons.finds_giveup}
@@ -60,7 +59,7 @@ refused_other : (h : Here) (bodies : List Body) (c : ℕ) → bodies ≡ body.Re
     true
 refused_other h bodies c is = ap (are_so (row (λ g. is_node_given_up)) h) is
 
-module _ (hd : Header) (form : HeaderInForm hd) where
+module _ (hd : Header) (form : HeaderFits hd) where
   -- the run up to an event
   abbrev pub Inv : Past → World → Type 0
   Inv p w = events.Turned hd form p w × doomed.Inv hd form p w

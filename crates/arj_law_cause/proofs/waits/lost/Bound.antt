@@ -15,7 +15,7 @@ use Rattle.arj_law_runs.proofs.Terms.{HasEntry, NamedOf, keeps_asked, IsAtStarts
 use Rattle.arj_law_runs.proofs.addresses.{Lists.keyed_found, Runs.kept}
 use Rattle.arj_law_runs.proofs.calls.WorldSteps.{reads_back}
 use Rattle.arj_law_runs.specs.addresses.Addresses.{AreAddressed, IsNode, NamesOf}
-use Rattle.arj_journal.specs.ScriptForm.{HeaderInForm}
+use Rattle.arj_promise.specs.Runs.{HeaderFits}
 use Rattle.arj_law_lock_view.proofs.Terms.{same_number}
 use Rattle.arj_law_lock_view.proofs.moments.Answers.{Known, answers_step, first_made, known_wide, made_closes, made_opens}
 use Rattle.arj_law_lock_view.specs.moments.Made.{AnswersAreMade, Saying, Tells}
@@ -73,7 +73,7 @@ wide_all : (hd : Header) (P : Seen → Type 0) → KeepsWith hd (IsAtStarts hd P
 wide_all hd P k =
     record { opens = k.opens; closes = k.closes; steps = k.steps; first = λ st formed. ([], (λ p i. i), k.first st formed) }
 
-base_keep : (hd : Header) → HeaderInForm hd → KeepsAll hd (Base hd)
+base_keep : (hd : Header) → HeaderFits hd → KeepsAll hd (Base hd)
 base_keep hd form = all_both hd Core (λ M. Wide Known M × Entries hd M) (core_keep hd)
     (all_both hd (Wide Known) (Entries hd) (wide_all hd Known (known_wide hd))
     (all_both hd (Wide DisksFull) (Wide (AreAddressed hd))
@@ -262,7 +262,7 @@ tells_full hd k d t v from m h a r front M known there other meant asking new is
 abbrev pub Stocked : Header → Moment → Type 0
 Stocked hd M = Base hd M × AnswersAreMade says_full M
 
-pub stocked_keep : (hd : Header) → HeaderInForm hd → KeepsAll hd (Stocked hd)
+pub stocked_keep : (hd : Header) → HeaderFits hd → KeepsAll hd (Stocked hd)
 stocked_keep hd form = let base = base_keep hd form in record {
   opens = λ e M first number h. (base.opens e M first number h.0, made_opens says_full e M first number h.1);
   closes = λ bodies M number lines h. (base.closes bodies M number lines h.0, made_closes says_full bodies M number lines h.1);

@@ -29,7 +29,7 @@ use Rattle.arj_law_cause.proofs.waits.lost.Bound.{Stocked, stocked_keep}
 use Rattle.arj_law_cause.proofs.waits.lost.Losing
 use Losing.{abort_still, commit_still, give_still, heard_still, keeps, keeps_other, loses_of, loses_other, parts_quiet, same_label}
 use Rattle.arj_law_cause.specs.waits.lost.Lost.{is_lost}
-use Rattle.arj_journal.specs.ScriptForm.{HeaderInForm}
+use Rattle.arj_promise.specs.Runs.{HeaderFits}
 
 -- the line may stand in the event, if it says that something was lost
 abbrev pub Fits : Event → Body → Type 0
@@ -192,7 +192,7 @@ plain_lines e [] plain = tt
 plain_lines e (b ∷ bs) plain = let q = and_parts (is_plain_line b) (list_all is_plain_line bs) plain in
     (keeps_fit e b (plain_line b q.0), plain_lines e bs q.1)
 
-all_step : (hd : Header) → HeaderInForm hd → KeepsSteps hd (All hd)
+all_step : (hd : Header) → HeaderFits hd → KeepsSteps hd (All hd)
 all_step hd form = let made = stocked_keep hd form in let steps = made.steps in record {
   quiet = λ bs M plain h. (steps.quiet bs M plain h.0, said_fit bs M (plain_lines M.past.event bs plain) h.1);
   junk = λ n M fit h. (
@@ -247,7 +247,7 @@ all_step hd form = let made = stocked_keep hd form in let steps = made.steps in 
     both k outs v d M a b = with_both (Stocked hd) LinesFit k outs (UpWith (Stocked hd) k v) (UpWith LinesFit k v) d M a b
 
 -- as an event comes nothing is written, and nothing as it is over
-pub all_keep : (hd : Header) → HeaderInForm hd → KeepsAll hd (All hd)
+pub all_keep : (hd : Header) → HeaderFits hd → KeepsAll hd (All hd)
 all_keep hd form = let made = stocked_keep hd form in record {
   opens = λ e M first number h. (
     made.opens e M first number h.0,

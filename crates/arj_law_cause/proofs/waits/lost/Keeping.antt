@@ -9,7 +9,8 @@ use Words.{acts_own, heard_own}
 use Words.body
 use Rattle.arj_law_runs.proofs.Terms
 use Terms.{IsAtStarts, disk_by, entries_from, entry_by, Keeps, at, given, posted, said, Up, Walks}
-use Rattle.arj_journal.specs.ScriptForm.{HeaderInForm, ObjectLineInForm}
+use Rattle.arj_journal.specs.ScriptForm.{ObjectLineInForm}
+use Rattle.arj_promise.specs.Runs.{HeaderFits}
 use Rattle.arj_journal.specs.declared.limits.TheConstants.{STORES}
 use Rattle.arj_law_runs.proofs.addresses.Lists.{all_map, all_put}
 use Rattle.arj_law_cause.proofs.waits.commits.Serving as Serving
@@ -76,7 +77,7 @@ coord_full (Do w ∷ es) all =
 
 -- ---- at first
 
-module _ (hd : Header) (form : HeaderInForm hd) where
+module _ (hd : Header) (form : HeaderFits hd) where
   full_list : (ss : List ℕ) → NodesInForm hd.nodes STORES ss → IsFull ss
   full_list ss are = by ss (leb-true 1 (length ss) (and_parts (nat_le 1 (length ss)) (nat_le (length ss) STORES)
       (and_parts (nat_le 1 (length ss) && nat_le (length ss) STORES)

@@ -7,9 +7,8 @@ use Rattle.arj_law_runs.specs.follow.Refusals.{PlainRefusalsStep}
 use Rattle.arj_law_cause.proofs.follow.causes.Refusing as trees
 use Rattle.arj_law_cause.specs.follow.causes.Refusals.{TreeRefusalsStep}
 use Rattle.arj_law_parts.specs.moves.Moments.{no_history}
-use Rattle.arj_journal.specs.ScriptForm.{HeaderInForm}
 use Rattle.arj_model.specs.Past.{Past, at_start}
-use Rattle.arj_promise.specs.Runs.{IsStoppedInForm}
+use Rattle.arj_promise.specs.Runs.{HeaderFits, IsStoppedInForm}
 use Rattle.arj_promise.specs.Starts.{IsFormed}
 use Rattle.arj_start.specs.Start.{Start}
 use Rattle.arj_law_cause.proofs.waits.lowest.Causes as causes
@@ -21,7 +20,7 @@ use Rattle.arj_law_cause.specs.waits.lowest.Refusals.{RefusalsFollow, RefusalsSt
 use Rattle.arj_law_cause.specs.waits.objects.Refusals.{ObjectRefusalsStep}
 use Rattle.arj_law_cause.specs.waits.waiting.Refusals.{WaitingRefusalsStep}
 
-module _ (hd : Header) (form : HeaderInForm hd) where
+module _ (hd : Header) (form : HeaderFits hd) where
   abbrev Trees : Past → World → Type 0
   Trees p w = plains.Stands hd form p w × trees.Stands hd form p w
 

@@ -29,12 +29,11 @@ use Rattle.arj_law_parts.specs.moves.Seen as seen
 use Rattle.arj_law_parts.specs.moves.With.{HoldsWith, asked_of_node, look, past_event, past_unless, written}
 use Rattle.arj_law_parts.specs.steps.Named.{HasNames}
 use Rattle.arj_law_parts.specs.steps.Writes.{asks}
-use Rattle.arj_journal.specs.ScriptForm.{HeaderInForm}
 use Rattle.arj_model.specs.Actions.{root_in}
 use Rattle.arj_model.specs.Past.{Asked as AskedOf, Past, asked_of, at_start, is_refused}
 use Rattle.arj_model.specs.Refusals as model
 use Rattle.arj_model.specs.Refusals.{asks_by, is_ask_by, is_root, object_used, objects_from, with_object}
-use Rattle.arj_promise.specs.Runs.{IsStoppedInForm}
+use Rattle.arj_promise.specs.Runs.{HeaderFits, IsStoppedInForm}
 use Rattle.arj_promise.specs.Starts.{IsFormed}
 use Rattle.arj_protocol.specs.World as world
 use Rattle.arj_start.specs.Limits.{most_objects}
@@ -179,7 +178,7 @@ finds_include l x s = record {
 
 -- ---- runs
 
-module _ (hd : Header) (form : HeaderInForm hd) where
+module _ (hd : Header) (form : HeaderFits hd) where
   -- a run up to an event, its history, and the world there
   pub record Stands (g : History) (p : Past) (w : World) : Type 0 where
     pub base : running.Stands hd form g p w

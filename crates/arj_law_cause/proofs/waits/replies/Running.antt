@@ -9,9 +9,8 @@ use Rattle.arj_law_parts.specs.moves.With.{HoldsAt, HoldsWith, asked_of_node, pa
 use Rattle.arj_law_parts.specs.steps.Writes.{asks}
 use Rattle.arj_law_runs.proofs.follow.Along.{Ended, Outcome, Went, event_of, runs_along}
 use Rattle.arj_law_runs.proofs.follow.Refusing.{Came, IsRefused, IsRun, same_bodies}
-use Rattle.arj_journal.specs.ScriptForm.{HeaderInForm}
 use Rattle.arj_model.specs.Past.{Past, asked_of, at_start, block}
-use Rattle.arj_promise.specs.Runs.{IsStoppedInForm}
+use Rattle.arj_promise.specs.Runs.{HeaderFits, IsStoppedInForm}
 use Rattle.arj_promise.specs.Starts.{IsFormed}
 use Rattle.arj_law_lock_view.specs.asking.Asked.{accepted_of}
 use Rattle.arj_law_cause.proofs.waits.waiting.Running as running
@@ -20,7 +19,7 @@ use Rattle.arj_law_cause.proofs.waits.replies.Answering.{same_all}
 use Rattle.arj_law_cause.proofs.waits.replies.Fitting.{All, all_keep}
 use Rattle.arj_law_cause.specs.waits.replies.Ends.{EndWaits, RepliesEndWaits, RepliesStep}
 
-module _ (hd : Header) (form : HeaderInForm hd) where
+module _ (hd : Header) (form : HeaderFits hd) where
   -- a run up to an event, its history, and the world there
   pub record Stands (g : History) (p : Past) (w : World) : Type 0 where
     pub base : running.Stands hd form g p w
@@ -83,10 +82,10 @@ module _ (hd : Header) (form : HeaderInForm hd) where
     fits bodies (IsRun free isnt lines) count = run_fits bodies (running.granted hd form m g p w stops s.base on free count) lines
 
 -- the run up to an event, with some history
-abbrev pub Inv : (hd : Header) → HeaderInForm hd → Past → World → Type 0
+abbrev pub Inv : (hd : Header) → HeaderFits hd → Past → World → Type 0
 Inv hd form p w = (g : History) × Stands hd form g p w
 
-pub goes : (hd : Header) (form : HeaderInForm hd) (m : Move) (p : Past) (w : World) → IsStoppedInForm m → Inv hd form p w → w.over ≡ false →
+pub goes : (hd : Header) (form : HeaderFits hd) (m : Move) (p : Past) (w : World) → IsStoppedInForm m → Inv hd form p w → w.over ≡ false →
     Outcome (RepliesStep hd) (Inv hd form) m p w
 goes hd form m p w stops s on = by (running.leaves hd form m s.0 p w stops (let z = s.1 in z.base) on)
   where
@@ -99,7 +98,7 @@ goes hd form m p w stops s on = by (running.leaves hd form m s.0 p w stops (let 
         )
     by (Stopped over event lines past nodes) = Ended over event lines
 
-pub first_stands : (hd : Header) (form : HeaderInForm hd) (st : Start) → IsFormed hd st → Stands hd form (no_history st) (at_start st)
+pub first_stands : (hd : Header) (form : HeaderFits hd) (st : Start) → IsFormed hd st → Stands hd form (no_history st) (at_start st)
     (world_from hd st)
 first_stands hd form st formed = record {
   base = running.first_stands hd form st formed;

@@ -11,10 +11,9 @@ use Rattle.arj_law_parts.specs.steps.Writes.{asks}
 use Rattle.arj_law_runs.proofs.follow.Along.{Ended, Outcome, Went, event_of, runs_along}
 use Rattle.arj_law_runs.proofs.follow.Refusing.{Came, IsRefused, IsRun}
 use Rattle.arj_law_runs.specs.follow.Frames.{run_events}
-use Rattle.arj_journal.specs.ScriptForm.{HeaderInForm}
 use Rattle.arj_model.specs.Follows.{Runs}
 use Rattle.arj_model.specs.Past.{Past, asked_of, at_start, block}
-use Rattle.arj_promise.specs.Runs.{IsInForm, IsStoppedInForm, Run, journal_by}
+use Rattle.arj_promise.specs.Runs.{HeaderFits, IsInForm, IsStoppedInForm, Run, journal_by}
 use Rattle.arj_promise.specs.Starts.{IsFormed}
 use Rattle.arj_law_cause.proofs.waits.waiting.Asked.{same_event}
 use Rattle.arj_law_cause.proofs.waits.waiting.Running as running
@@ -29,7 +28,7 @@ pub record IsMoment (p : Past) (e : Event) (bodies : List Body) (M : Moment) : T
   pub lines : M.seen.lines ≡ p.lines ++ block (p.count + 1) bodies
   pub asked : AreAsked (p.accepted ++ asked_of p e ∷ []) M.past.askings
 
-module _ (hd : Header) (form : HeaderInForm hd) (P : Moment → Type 0) (keep : KeepsAll hd P) (Step : Past → Event → List Body → Type 0)
+module _ (hd : Header) (form : HeaderFits hd) (P : Moment → Type 0) (keep : KeepsAll hd P) (Step : Past → Event → List Body → Type 0)
     (refused : (p : Past) (e : Event) (c : ℕ) → Step p e (body.Refused c ∷ []))
     (gives : (p : Past) (e : Event) (bodies : List Body) (M : Moment) → IsMoment p e bodies M → P M → Step p e bodies) where
   -- a run up to an event, its history, and the world there

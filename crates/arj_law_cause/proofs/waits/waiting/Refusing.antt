@@ -18,12 +18,11 @@ use Rattle.arj_law_runs.proofs.follow.Refusing.{Came, IsRefused, IsRun}
 use Rattle.arj_law_runs.proofs.journal.Beginning.{named_at}
 use Rattle.arj_law_runs.specs.follow.Refusals.{is_plain_cause, names_action}
 use Rattle.arj_law_parts.specs.steps.Writes.{node_refusal}
-use Rattle.arj_journal.specs.ScriptForm.{HeaderInForm}
 use Rattle.arj_model.specs.Actions.{is_begun}
 use Rattle.arj_model.specs.Last.{object_line}
 use Rattle.arj_model.specs.Past.{Past, is_refused}
 use Rattle.arj_model.specs.Refusals as model
-use Rattle.arj_promise.specs.Runs.{IsStoppedInForm}
+use Rattle.arj_promise.specs.Runs.{HeaderFits, IsStoppedInForm}
 use Rattle.arj_protocol.specs.Step.{refusal_at, refusal_up, is_misplaced}
 use Rattle.arj_protocol.specs.Tree.{has_many_actions, is_too_deep}
 use Rattle.arj_law_parts.specs.moves.Moments.{History, no_history}
@@ -81,7 +80,7 @@ either_none : (a b : Bool) → (a || b) ≡ false → (a ≡ false) × (b ≡ fa
 either_none true b is = absurd (cc is)
 either_none false b is = (refl, is)
 
-module _ (hd : Header) (form : HeaderInForm hd) (m : Move) (g : History) (p : Past) (w : World) (stops : IsStoppedInForm m)
+module _ (hd : Header) (form : HeaderFits hd) (m : Move) (g : History) (p : Past) (w : World) (stops : IsStoppedInForm m)
     (s : running.Stands hd form g p w) (on : w.over ≡ false) where
   abbrev e : Event
   e = event_of m
@@ -300,10 +299,10 @@ module _ (hd : Header) (form : HeaderInForm hd) (m : Move) (g : History) (p : Pa
       (λ lowest. never c (sym none ∙ (all_same c low).0 lowest), λ line. absurd (refused_so bodies c isnt line))
 
 -- the run up to an event, with some history
-abbrev pub Inv : (hd : Header) → HeaderInForm hd → Past → World → Type 0
+abbrev pub Inv : (hd : Header) → HeaderFits hd → Past → World → Type 0
 Inv hd form p w = (g : History) × running.Stands hd form g p w
 
-pub goes : (hd : Header) (form : HeaderInForm hd) (m : Move) (p : Past) (w : World) → IsStoppedInForm m → Inv hd form p w → w.over ≡ false →
+pub goes : (hd : Header) (form : HeaderFits hd) (m : Move) (p : Past) (w : World) → IsStoppedInForm m → Inv hd form p w → w.over ≡ false →
     Outcome (WaitingRefusalsStep hd) (Inv hd form) m p w
 goes hd form m p w stops s on = by (running.leaves hd form m s.0 p w stops s.1 on)
   where

@@ -21,10 +21,9 @@ use Rattle.arj_law_runs.proofs.follow.Reasons.{joined, refused_by_any}
 use Rattle.arj_law_runs.proofs.follow.Refusing as refusing
 use Rattle.arj_law_runs.proofs.follow.Refusing.{Came, IsRefused, IsRun}
 use Rattle.arj_law_runs.specs.follow.Frames.{FramesStep}
-use Rattle.arj_journal.specs.ScriptForm.{HeaderInForm}
 use Rattle.arj_model.specs.Past.{Past, asked_of, at_start, block, is_refused, next}
 use Rattle.arj_model.specs.Refusals as model
-use Rattle.arj_promise.specs.Runs.{IsStoppedInForm}
+use Rattle.arj_promise.specs.Runs.{HeaderFits, IsStoppedInForm}
 use Rattle.arj_promise.specs.Starts.{IsFormed}
 use Rattle.arj_protocol.specs.Step.{is_about_action}
 use Rattle.arj_law_cause.proofs.waits.waiting.Knowing.{Core, core_keep}
@@ -49,7 +48,7 @@ next_same r p same e bodies = record {
   lines = λ i. same.lines i ++ block (same.count i + 1) bodies;
 }
 
-module _ (hd : Header) (form : HeaderInForm hd) where
+module _ (hd : Header) (form : HeaderFits hd) where
   -- a run up to an event, its history, and the world there
   pub record Stands (g : History) (p : Past) (w : World) : Type 0 where
     pub base : refusing.Stands hd form p w

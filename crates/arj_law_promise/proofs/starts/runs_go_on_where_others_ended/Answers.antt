@@ -1,5 +1,6 @@
 use Rattle.arj_law_parts.proofs.Words.{refl}
-use Rattle.arj_law_promise.proofs.statement.Later.{at_listed_fails, begun_again_fails, formed, in_form, not_below_fails}
+use Rattle.arj_law_promise.proofs.statement.Later.{at_listed_fails, begun_again_fails, formed, grown, in_form, last_is_there}
+use Rattle.arj_law_promise.proofs.statement.Later.{not_below_fails}
 use Rattle.arj_law_promise.proofs.statement.Keeping.{runs_keep}
 use Rattle.arj_law_promise.specs.starts.Samples.{later_run, some_moves, three_nodes}
 use Rattle.arj_law_promise.proofs.starts.runs_go_on_where_others_ended.Goals as goal
@@ -13,6 +14,12 @@ returns-clause-goes_on c = record {
   begins = refl;
   refuses = refl;
 }
+
+pub returns-clause-last : goal.returns-clause-last
+returns-clause-last c = last_is_there
+
+pub returns-clause-grown : goal.returns-clause-grown
+returns-clause-grown c = grown
 
 pub returns-clause-not_below : goal.returns-clause-not_below
 returns-clause-not_below c = not_below_fails
