@@ -94,6 +94,32 @@ aborted_changed_unit = run
 aborted_changed_unit_has_causes : lacking aborted_changed_unit ≡ []
 aborted_changed_unit_has_causes = refl
 
+-- naming restarts behind an include, and nothing else uses the object
+abbrev pub aborted_changed_included : Run
+aborted_changed_included = run
+    (nodes 3 (object_line 1 (value.Counter 0) (2 ∷ []) (2 ∷ []) ∷ []))
+    ((event.Begin (l 65) 2, body.Began (l 65) kind.Top (u 2 1 1) None ∷ [])
+    ∷ (event.Include (l 65) 1 3, body.Sent 1 2 1 frame.Bind ∷ [])
+    ∷ (
+      event.Settle,
+      body.Got 1 ∷ body.Granted 1 (u 2 1 1) (u 0 1 1) Write ∷ body.Sent 2 1 2 frame.Bound ∷ body.Got 2 ∷ body.Includes (l 65) 1 3 ∷ [],
+    )
+    ∷ (event.Crash 1, body.Halted 1 ∷ [])
+    ∷ (event.Restart 1, body.Up 1 2 ∷ body.Sent 3 1 2 frame.Hello ∷ body.Sent 4 1 3 frame.Hello ∷ [])
+    ∷ (event.Settle, body.Got 3 ∷ body.Got 4 ∷ [])
+    ∷ (event.Commit (l 65), body.Committing (l 65) ∷ body.Sent 5 2 3 frame.Prepare ∷ [])
+    ∷ (
+      event.Settle,
+      body.Got 5 ∷ body.Prepared 3 (u 2 1 1) role.Store ∷ body.Sent 6 3 2 frame.Prepared ∷ body.Got 6 ∷ body.Sent 7 2 1 frame.Confirm
+          ∷ body.Got 7 ∷ body.Sent 8 1 2 frame.Confirmed ∷ body.Got 8 ∷ body.Aborted (l 65) (cause.Changed 1 (difference.Inc 1 2))
+          ∷ body.Sent 9 2 1 frame.Told ∷ body.Sent 10 2 3 frame.Told ∷ body.Got 9 ∷ body.Got 10
+          ∷ body.Done 3 (u 2 1 1) role.Store Abort ∷ [],
+    )
+    ∷ [])
+
+aborted_changed_included_has_causes : lacking aborted_changed_included ≡ []
+aborted_changed_included_has_causes = refl
+
 -- naming restarts behind a commit that is called
 abbrev pub restarted_naming : Run
 restarted_naming = run

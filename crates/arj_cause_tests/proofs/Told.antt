@@ -31,8 +31,8 @@ use Rattle.arj_cause_tests.proofs.Words.{Run, after, b, end_from, instead, l, no
 use Rattle.arj_cause_tests.proofs.Worked.{conflict, exclusion, inclusion, lost_lock, naming_stopped, nested_abort, no_store_left}
 use Rattle.arj_cause_tests.proofs.Worked.{rebinding}
 use Rattle.arj_cause_tests.proofs.Worked.{stop_at_decision_done}
-use Rattle.arj_cause_tests.proofs.Rare.{aborted_changed_bind, aborted_changed_unit, aborted_conflict, aborted_lost, aborted_old}
-use Rattle.arj_cause_tests.proofs.Rare.{changed_bind_naming, restarted_naming}
+use Rattle.arj_cause_tests.proofs.Rare.{aborted_changed_bind, aborted_changed_included, aborted_changed_unit, aborted_conflict}
+use Rattle.arj_cause_tests.proofs.Rare.{aborted_lost, aborted_old, changed_bind_naming, restarted_naming}
 use Rattle.arj_cause_tests.proofs.Rarer.{changed_bind_server, changed_inc_naming, changed_inc_server, conflict_pending, conflict_unsaid}
 use Rattle.arj_cause_tests.proofs.Rarer.{committed_unsaid, excluded_pending}
 use Rattle.arj_cause_tests.proofs.WrongEvents.{begins, two_nodes}
@@ -413,7 +413,7 @@ bound_inactive : failing_of is_changed_abort (without 50 aborted_changed_bind) �
 bound_inactive = refl
 
 -- of an object that the unit uses: no call of it was answered, or of another object; and where a constituent before used it, that one hasn't
--- committed, and is of another root
+-- committed, and is of another root; and the include was for another object
 voted_unused : failing_of is_changed_abort (without 15 lost_lock) ≡ 24 ∷ []
 voted_unused = refl
 
@@ -428,6 +428,9 @@ unit_uncommitted = refl
 
 unit_of_another : failing_of is_changed_abort (instead 31 (body.Began (l 68) kind.Top (u 1 1 3) None) aborted_changed_unit) ≡ 37 ∷ []
 unit_of_another = refl
+
+unit_includes_beside : failing_of is_changed_abort (instead 7 (body.Includes (l 65) 2 3) aborted_changed_included) ≡ 24 ∷ []
+unit_includes_beside = refl
 
 -- by their own runs they are so
 voted_so : failing_of is_changed_abort lost_lock ≡ []
