@@ -28,10 +28,11 @@ use Rattle.arj_law_promise.proofs.waiting.Gives.{at_of}
 use Rattle.arj_law_promise.proofs.settling.Waiting.{AllKnown, all_answer, all_kept}
 use Rattle.arj_law_runs.proofs.Terms.{AnswersWaits, AreBrought, Asking, HasWay, Walks, Up, up, want_of_call, want_of_commit}
 use Rattle.arj_law_runs.proofs.resting
-use resting.{Effects.works, Flights.Left, Flights.MayGrow, Flights.MessagesKeep, Flights.whole_keeps, Flights.with_here}
+use resting.Quiesces as quiesces
+use resting.{Effects.works, Flights.MayGrow, Flights.MessagesKeep, Flights.whole_keeps, Flights.with_here}
 use resting.{Hearing.IsHome, Hearing.AsksIn, Hearing.Fits, Hearing.Goes, Hearing.Moves, Hearing.asks_for, Hearing.call_steps}
-use resting.{Hearing.commit_moves, Hearing.end_work, Passing.Brought, Passing.coords, Passing.message_brings}
-use resting.{Quiesces.good_home, Quiesces.keeps_good, Serving.asks_no_answer, Ways.Then, Ways.brought_more, Ways.brought_of}
+use resting.{Hearing.commit_moves, Hearing.end_work, Passing.coords}
+use resting.{Quiesces.good_home, Quiesces.keeps_good, Serving.asks_no_answer, Ways.Then, Ways.brought_of}
 use resting.{Ways.heard_stays, Ways.post_of}
 use resting.{Ways.put, Worlds.Of, Worlds.nodes_in, Worlds.seen_up}
 use Rattle.arj_law_runs.specs.resting.Waits.{Brings, Answering, AsksFor, Want}
@@ -125,7 +126,7 @@ module _ (hd : Header) (form : HeaderFits hd) where
   Ways found F B = AreBrought (Of hd) (coords found) F B
 
   ways_more : MayGrow Ways
-  ways_more found F U B D on said a = brought_more (Of hd) (coords found) F U B D on.0 said a
+  ways_more = quiesces.ways_more hd P gives homes (Of hd)
 
   put_up : (n : ℕ) (d : Disk) (v : Parts) (outs : List Effect) (found : ℕ → Option Node) (base : ℕ → Option Coord) →
       ((k : ℕ) → (k == n) ≡ false → coords found k ≡ base k) → (k : ℕ) →
@@ -138,18 +139,7 @@ module _ (hd : Header) (form : HeaderFits hd) where
       one false is = other k is
 
   ways_message : MessagesKeep P Ways
-  ways_message n d t from m M holds sent F G B under less back lines brought =
-      by (taken n d t from m) (message_brings hd P gives homes (Of hd) n d t from m M holds sent F G B less lines brought)
-    where
-      here_not : (k : ℕ) → (k == n) ≡ false → coords M.nodes k ≡ coords (up n d t M).nodes k
-      here_not k apart = ap (λ b. coord_in (cond b (Some (record { number = n; disk = d; live = Some t })) (M.nodes k))) (sym apart)
-
-      by : (r : Handled) → Brought hd P gives homes (Of hd) n (coords (up n d t M).nodes) G B r →
-          Left Ways n (record { disk = d; parts = t }) M.nodes G B r
-      by (Void outs) b = b
-      by (Took v outs) b = brought_of (Of hd) (put n v.coord (coords (up n d t M).nodes))
-          (coords (with_here n (record { disk = works outs d; parts = v }) M.nodes)) (Then G n outs) B
-          (put_up n d v outs M.nodes (coords (up n d t M).nodes) here_not) b
+  ways_message = quiesces.ways_message hd P gives homes (Of hd)
 
   -- who waits has such a request
   old_ways : (found : ℕ → Option Node) (B : Body → Type 0) → ((k : ℕ) (c : Coord) → coords found k ≡ Some c → IsHome c) →
