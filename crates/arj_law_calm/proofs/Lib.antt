@@ -1,0 +1,11 @@
+pub mod Headers
+pub mod Few
+pub mod Counts
+pub mod Own
+pub mod Fronts
+pub mod Writers
+pub mod States
+pub mod Older
+pub mod Values
+pub mod Fit
+pub mod Formed
