@@ -14,3 +14,4 @@ pub mod votes
 pub mod sending
 pub mod leading
 pub mod stores
+pub mod local

@@ -3,11 +3,11 @@
 //! `follow/` has what events write, `waits/` what actions wait for, `rows/` answers with their causes, `operations/` of which operation
 //! an answer is, `kinds/` lines of one kind with their causes, `bindings/` what naming and servers have of bindings, `confirm/` why
 //! naming refuses commits, `votes/` what tops have written that stores are asked to prepare, `stores/` that they have prepared it where a
-//! top commits, `spelled/` that what is sent can be spelled, `told/` all that a journal says of why it is so, put together, `form/` which
-//! lines are in form, `rounds/` what quiesces answer and rounds leave.
+//! top commits, `spelled/` that what is sent can be spelled, `told/` all that a journal says of why it is so, put together, `local/` whose
+//! lines an event writes, `form/` which lines are in form, `rounds/` what quiesces answer and rounds leave.
 //!
-//! What it gives upward: `every_line_has_its_cause`, `journals_follow_their_events`, `journals_tell_their_causes`;
-//! `tree_refusals_follow`, `object_refusals_follow`, `refusals_follow`, `dooms_have_causes`, `lines_follow`; `waiting_refusals_follow`,
+//! What it gives upward: `every_line_has_its_cause`, `journals_follow_their_events`, `journals_tell_their_causes`,
+//! `lines_are_of_their_node`; `tree_refusals_follow`, `object_refusals_follow`, `refusals_follow`, `dooms_have_causes`, `lines_follow`; `waiting_refusals_follow`,
 //! `answers_end_what_waits`, `commits_end_what_waits`, `giveups_lose_calls`; `conflicts_are_met`, `tables_agree_inside_events`,
 //! `answers_have_causes`, `conflicts_come_exactly`, `answers_are_of_their_operations`;
 //! `frame_lines_have_causes`, `stops_have_causes`, `restarts_have_causes`, `limits_have_causes`, `openings_have_causes`,
@@ -56,6 +56,7 @@ pub use rounds::{
 pub use tables::tables_agree_inside_events;
 pub use telling::{
     every_line_has_its_cause, journals_follow_their_events, journals_tell_their_causes,
+    lines_are_of_their_node,
 };
 pub use waiting::{
     answers_end_what_waits, commits_end_what_waits, giveups_lose_calls, waiting_refusals_follow,

@@ -1,5 +1,5 @@
 // What every journal says of why it is so.
-ghost use Rattle.arj_law_cause.specs.told.Runs.{JournalsTell, LinesHaveCauses, RunsFollow};
+ghost use Rattle.arj_law_cause.specs.told.Runs.{JournalsTell, LinesAreLocal, LinesHaveCauses, RunsFollow};
 
 /// In every run in form, wherever it begins and wherever disks stop, the journal says why it is so, in words of the header, the events and its
 /// own lines (`TellsItsCauses`): what each event writes and for what it is refused (`Follows`); that each line has its cause (`JHasCauses`);
@@ -21,4 +21,11 @@ pub fn every_line_has_its_cause()
 /// It does nothing when it runs.
 pub fn journals_follow_their_events()
     ensures runs { RunsFollow }
+{}
+
+/// In every run in form, wherever it begins and wherever disks stop, each line of an event at one node, but a restart, is of what that node
+/// did (`LocalStep`): it names the node, answers an action that began there, or is of a frame that the node sent; of a delivery that node is
+/// the receiver. It does nothing when it runs.
+pub fn lines_are_of_their_node()
+    ensures runs { LinesAreLocal }
 {}

@@ -2,8 +2,9 @@
 use Rattle.arj_journal.specs.declared.header.Header.{Header}
 use Rattle.arj_law_runs.specs.follow.Frames.{run_events}
 use Rattle.arj_model.specs.Caused.{JHasCauses}
-use Rattle.arj_model.specs.Follows.{Follows}
+use Rattle.arj_model.specs.Follows.{Follows, Runs}
 use Rattle.arj_promise.specs.Runs.{IsInForm, Run, journal_by}
+use Rattle.arj_law_cause.specs.told.Local.{LocalAtOne}
 use Rattle.arj_law_cause.specs.told.Told.{TellsItsCauses}
 
 -- of every run in form, wherever it begins: by the events that were run, and by its journal
@@ -17,3 +18,7 @@ LinesHaveCauses = (hd : Header) (r : Run hd) → IsInForm hd r → JHasCauses hd
 -- and it follows its events
 abbrev pub RunsFollow : Type 0
 RunsFollow = (hd : Header) (r : Run hd) → IsInForm hd r → Follows hd r.start (run_events hd r) (journal_by hd r)
+
+-- and of each event at one node each line is of what a node did in that step
+abbrev pub LinesAreLocal : Type 0
+LinesAreLocal = (hd : Header) (r : Run hd) → IsInForm hd r → Runs (LocalAtOne hd) r.start (run_events hd r) (journal_by hd r)
