@@ -82,7 +82,7 @@ all_at_line P (p ∷ ps) all o (inl same) = subst P same all.0
 all_at_line P (p ∷ ps) all o (inr i) = all_at_line P ps all.1 o i
 
 -- a line of the header is found by its number
-line_there : (header : Header) (o : ObjectLine) → In o header.objects → is_some (object_line header o.x) ≡ true
+pub line_there : (header : Header) (o : ObjectLine) → In o header.objects → is_some (object_line header o.x) ≡ true
 line_there header o i = by (object_line header o.x) refl
   where
     by : (q : Option ObjectLine) → object_line header o.x ≡ q → is_some q ≡ true

@@ -9,3 +9,5 @@ pub mod Older
 pub mod Values
 pub mod Fit
 pub mod Formed
+pub mod Images
+pub mod Nodes

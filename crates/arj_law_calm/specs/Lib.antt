@@ -1,3 +1,4 @@
 pub mod Next
 pub mod Laws
 pub mod Leaves
+pub mod Starts

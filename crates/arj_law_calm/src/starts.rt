@@ -1,5 +1,6 @@
 // The start that goes on.
 ghost use Rattle.arj_law_calm.specs.Leaves.{HeadersFit, JournalsLeaveStarts};
+ghost use Rattle.arj_law_calm.specs.Starts.{CalmHeadersFit, CalmImagesAreStarts};
 
 use arj_check::{readable_calls_can_be_run, readable_tops_have_own_keys};
 
@@ -12,4 +13,13 @@ pub fn journals_leave_starts()
 {
     readable_calls_can_be_run();
     readable_tops_have_own_keys();
+}
+
+/// So it is of a calm image, whether a run made it or not: a run may go on from it. And the header that goes on fits: its values are in
+/// form, and each object has listed stores, which are nodes (`HeaderFits` of `arj_promise`). It does nothing when it runs.
+pub fn calm_images_are_starts()
+    ensures starts { CalmImagesAreStarts }
+    ensures headers { CalmHeadersFit }
+{
+    journals_leave_starts();
 }
