@@ -23,9 +23,9 @@ pub fn journals_follow_their_events()
     ensures runs { RunsFollow }
 {}
 
-/// In every run in form, wherever it begins and wherever disks stop, each line of an event at one node, but a restart, is of what that node
-/// did (`LocalStep`): it names the node, answers an action that began there, or is of a frame that the node sent; of a delivery that node is
-/// the receiver. It does nothing when it runs.
+/// In every run in form, wherever it begins and wherever disks stop, each line of an event at one node, any but a settle, a quiesce and a
+/// show, is of what that node did (`LocalStep`): it names the node, answers an action that began there, or is of a frame that the node sent;
+/// of a delivery that node is the receiver. It does nothing when it runs.
 pub fn lines_are_of_their_node()
     ensures runs { LinesAreLocal }
 {}

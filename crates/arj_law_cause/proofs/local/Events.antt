@@ -38,7 +38,7 @@ use Rattle.arj_law_cause.proofs.follow.lines.Several.{node_adds}
 use Rattle.arj_law_cause.proofs.local.Handled.{IsHome}
 use Rattle.arj_law_cause.proofs.local.Homes.{any_front, home, named_began}
 use Rattle.arj_law_cause.proofs.local.Labels.{BeginsNone}
-use Rattle.arj_law_cause.proofs.local.Steps.{AreOwn, IsTaken, act_any, frame_any, tick_any}
+use Rattle.arj_law_cause.proofs.local.Steps.{AreOwn, IsTaken, act_any, frame_any, restart_any, tick_any}
 use Rattle.arj_law_parts.proofs.coordinator.Trace.{Takes}
 use Rattle.arj_law_cause.specs.told.Local.{AreSteps, LeavesVoid, Moves, NoNodes, NoStep, Takes as TakesFrame, began_at}
 use Rattle.arj_law_cause.specs.told.Local.{begins_at}
@@ -190,6 +190,23 @@ module _ (hd : Header) (form : HeaderFits hd) (m : Move) (p : Past) (w : World) 
           (subst (λ j. Tells (AreOwn ls j) j n.disk (step t.header n input.Tick)) (placed k n there)
           (tick_any ls n t.header (λ x live. subst (λ j. IsHome ls j x) (sym (placed k n there)) (homes k n there x live))))) lines
 
+  -- a restart
+  restarted : (k : ℕ) → w.lines ++ block t.event bodies ≡ (limited (steps k input.Restart t)).lines →
+      refused_by_any (event.Restart k) t ≡ None → AreSteps ls (event.Restart k) 0 bodies
+  restarted k lines none = by (at_place k t.nodes) refl
+      (base.placed.places k (subst (λ (h : Header). model.is_node h k ≡ true) base.is node))
+    where
+      node : world.is_node k t ≡ true
+      node = not_not (world.is_node k t) (first_not 1 (not (world.is_node k t)) ((3, world.is_up_at k t) ∷ [])
+          (world_none (event.Restart k) none)).0
+
+      by : (o : Option Node) → at_place k t.nodes ≡ o → is_some o ≡ true → AreSteps ls (event.Restart k) 0 bodies
+      by None there is = absurd (cc is)
+      by (Some n) there is = one_node (event.Restart k) k n (steps k input.Restart t) there (itself k)
+          (node_adds (AreOwn ls k) k input.Restart t n there
+          (subst (λ j. Tells (AreOwn ls j) j n.disk (step t.header n input.Restart)) (placed k n there)
+          (restart_any ls n t.header))) lines
+
   -- ---- events that write lines of their own alone
 
   -- nothing stands between them and their end
@@ -285,6 +302,7 @@ module _ (hd : Header) (form : HeaderFits hd) (m : Move) (p : Past) (w : World) 
       (is_there l t (world_none e none)) (node_none e none)) (λ n v. refl) (λ n. tt) refl lines
   ran_so (event.Deliver k) a one x none isnt lines = delivered k none lines
   ran_so (event.Tick n) a one x none isnt lines = ticked n lines none
+  ran_so (event.Restart n) a one x none isnt lines = restarted n lines none
   ran_so e a one x none isnt lines = absurd (cc one)
 
   pub event_so : (e : Event) (a : Arm) → is_at_one e ≡ true → ShortEventsStep hd p e bodies → Came e a t bodies → AreSteps ls e 0 bodies

@@ -115,6 +115,11 @@ module _ (lines : List Line) (n : Node) where
   did_own t outs all home =
       let w = whole_own lines k t outs n.disk all home in tells_own lines k n.disk (node_did n [] t outs) w w
 
+  tolds_own : (telling : List (Uid × Intent)) → Own lines k (tolds_again telling)
+  tolds_own telling = all_flat (says (is_own_line lines k))
+      (λ (e : Uid × Intent). tell_all e.1.root true ((e.0, ending.Commit) ∷ []) e.1.nodes) telling
+      (λ e. map_says (is_own_line lines k) (tell e.1.root true ((e.0, ending.Commit) ∷ [])) e.1.nodes (λ m. refl))
+
   module _ (t : Parts) (home : IsHome lines k t) where
     frame_up : (f from : ℕ) (m : Option Message) → Tells (IsTaken lines k f) k n.disk (frame_step f from n t m)
     frame_up f from None = void_tells lines k f n [] refl
@@ -131,11 +136,6 @@ module _ (lines : List Line) (n : Node) where
     acts_up i none =
         let r = trace_own lines k none (acts_trace t.coord i n.disk.intents) home.0 in
         did_own (with_coord t (acts i n.disk.intents t.coord).part) (acts i n.disk.intents t.coord).outs r.0 (r.1, home.1)
-
-    tolds_own : (telling : List (Uid × Intent)) → Own lines k (tolds_again telling)
-    tolds_own telling = all_flat (says (is_own_line lines k))
-        (λ (e : Uid × Intent). tell_all e.1.root true ((e.0, ending.Commit) ∷ []) e.1.nodes) telling
-        (λ e. map_says (is_own_line lines k) (tell e.1.root true ((e.0, ending.Commit) ∷ [])) e.1.nodes (λ m. refl))
 
     tick_up : Tells (AreOwn lines k) k n.disk (tick_step n t)
     tick_up =
@@ -180,3 +180,49 @@ module _ (lines : List Line) (n : Node) where
       Tells (AreOwn lines k) k n.disk (step hd n i)
   act_any hd i t live free is none home = subst (Tells (AreOwn lines k) k n.disk)
       (sym (ap (step_unless hd i n) free ∙ ap (step_of hd i n) live ∙ is)) (acts_up t home i none)
+
+  -- a node that is down comes up
+  restart_outs_own : (hd : Header) (inc : ℕ) → Own lines k (restart_outs hd k inc n.disk)
+  restart_outs_own hd inc =
+      let back = naming_back (naming_at k inc n.disk.names) in
+      let records = Do Look ∷ recovered_records k n.disk.intents in
+      let questions = Words.map query_about (uid_set (prepared_actions n.disk.store ++ prepared_actions n.disk.names)) in
+      let hellos = Words.map (hello_to k inc) (without_number k (numbers_to hd.nodes)) in
+      let first = Do Look ∷ Do (PutInc inc) ∷ Say (body.Up k inc) ∷ Do Look ∷ back in
+      let S = says (is_own_line lines k) in
+      all_both S (first ++ records ++ tolds_again n.disk.intents ++ questions) hellos
+      (all_both S (first ++ records ++ tolds_again n.disk.intents) questions
+      (all_both S (first ++ records) (tolds_again n.disk.intents)
+      (all_both S first records (λ i. itself lines k i && named (k == 1) refl i)
+      (map_says (is_own_line lines k) _ n.disk.intents (λ e. itself lines k)))
+      (tolds_own n.disk.intents))
+      (map_says (is_own_line lines k) query_about (uid_set (prepared_actions n.disk.store ++ prepared_actions n.disk.names)) (λ u. refl)))
+      (map_says (is_own_line lines k) (hello_to k inc) (without_number k (numbers_to hd.nodes)) (λ m. refl))
+    where
+      one_at : (j : ℕ) → (j == 1) ≡ true → (1 == j) ≡ true
+      one_at j is = grind (arith, nat_tests, is)
+
+      named : (b : Bool) → (k == 1) ≡ b → Own lines k (naming_back (cond b (Some (recovered_naming inc n.disk.names)) None))
+      named false is = refl
+      named true is = let o = recovered_naming inc n.disk.names in
+          all_flat (says (is_own_line lines k)) (λ (e : ℕ × Named). back_lines e.1) o.objects
+          (λ e. map_says (is_own_line lines k) _ e.1.rows (λ r. one_at k is))
+
+  restart_own : (hd : Header) → Tells (AreOwn lines k) k n.disk (input.restart_step hd n)
+  restart_own hd = did_own (parts_in k (n.disk.inc + 1) n.disk) (restart_outs hd k (n.disk.inc + 1) n.disk)
+      (restart_outs_own hd (n.disk.inc + 1)) (tt, λ o is. at_one (k == 1) refl o is)
+    where
+      at_one : (b : Bool) → (k == 1) ≡ b → (o : Naming) →
+          cond b (Some (recovered_naming (n.disk.inc + 1) n.disk.names)) None ≡ Some o → k ≡ 1
+      at_one true one o is = Words.eqb-true k 1 one
+      at_one false one o is = let no_way : ◌≡◌ {A = Option Naming} None (Some o) = is in absurd (cc no_way)
+
+  pub restart_any : (hd : Header) → Tells (AreOwn lines k) k n.disk (step hd n input.Restart)
+  restart_any hd = by n.live refl
+    where
+      by : (o : Option Parts) → n.live ≡ o → Tells (AreOwn lines k) k n.disk (step hd n input.Restart)
+      by None is = subst (Tells (AreOwn lines k) k n.disk) (sym (ap (step_unless hd input.Restart n)
+          (ap (input.refusal_at hd input.Restart) is) ∙ ap (step_of hd input.Restart n) is)) (restart_own hd)
+      by (Some t) is = subst (Tells (AreOwn lines k) k n.disk) (sym (ap (step_unless hd input.Restart n)
+          (ap (input.refusal_at hd input.Restart) is) ∙ ap (step_of hd input.Restart n) is))
+          (tells_own lines k n.disk (input.does_nothing n) refl refl)

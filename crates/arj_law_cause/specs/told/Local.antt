@@ -101,11 +101,10 @@ pub data AreSteps (lines : List Line) (e : Event) : ℕ → List Body → Type 0
 abbrev pub LocalStep : Header → Past → Event → List Body → Type 0
 LocalStep hd past e bodies = AreSteps (past.lines ++ block (past.count + 1) bodies) e 0 bodies
 
--- one node at most works on the event, and no restart
+-- one node at most works on the event
 abbrev pub is_at_one : Event → Bool
 is_at_one event.Settle = false
 is_at_one event.Quiesce = false
-is_at_one (event.Restart n) = false
 is_at_one (event.Show x) = false
 is_at_one e = true
 
