@@ -23,8 +23,8 @@ pub fn journals_follow_their_events()
     ensures runs { RunsFollow }
 {}
 
-/// In every run in form, wherever it begins and wherever disks stop, each line of an event at one node, any but a settle, a quiesce and a
-/// show, is of what that node did (`LocalStep`): it names the node, answers an action that began there, or is of a frame that the node sent;
+/// In every run in form, wherever it begins and wherever disks stop, each line of an event, any but a settle and a quiesce, is of what the
+/// node that works then did (`LocalStep`): it names the node, answers an action that began there, or is of a frame that the node sent;
 /// of a delivery that node is the receiver. It does nothing when it runs.
 pub fn lines_are_of_their_node()
     ensures runs { LinesAreLocal }

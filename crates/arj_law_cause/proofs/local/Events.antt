@@ -5,6 +5,7 @@ use Words.{subst, nat_tests}
 use Words.{arith, inl, inr, ⊎_elim, Option, Some, None, is_some, list_all, and_parts, append_assoc, append-nil, nat_le, nat_lt, Body, Event}
 use Words.{Header, Label, FrameNo, Line, Move, Node, Parts, Input, World, Arm, at_place, as_delivered, change_frame, counted, deliver}
 use Words.{deliver_frame, first_reason, frame_number, happens, is_frame, limited, most_frames, name, node_of, step, steps, step_node}
+use Words.{⊤, AllByRecursion, numbers_to, node_numbers, show_all, numbered, map-append}
 use Words.body
 use Words.event
 use Words.frame
@@ -13,8 +14,10 @@ use Rattle.std.specs.Prelude.{MatchOption}
 use Rattle.arj_promise.specs.Runs.{HeaderFits}
 use Rattle.arj_law_parts.proofs.moves.Reasons.{first_not, is_there, not_not}
 use Rattle.arj_law_parts.specs.steps.Writes.{node_refusal}
-use Rattle.arj_law_promise.proofs.settling.Stills.{IsRight}
-use Rattle.arj_law_runs.proofs.Terms.{Act, Holds, act_in, acts}
+use Rattle.arj_law_promise.proofs.settling.{Rights.right_keep, Stills.IsRight}
+use Rattle.arj_law_parts.proofs.moves.Happens.{arms_hold, steps_hold}
+use Rattle.arj_law_runs.proofs.addresses.Lists.{all_append}
+use Rattle.arj_law_runs.proofs.Terms.{Act, Holds, act_in, acts, keeps_asked}
 use Rattle.arj_law_runs.proofs.follow.Frames as frames
 use Rattle.arj_law_runs.proofs.follow.Reasons.{joined, refused_by_any}
 use Rattle.arj_law_runs.proofs.follow.Refusing.{Came, IsRefused, IsRun}
@@ -38,7 +41,7 @@ use Rattle.arj_law_cause.proofs.follow.lines.Several.{node_adds}
 use Rattle.arj_law_cause.proofs.local.Handled.{IsHome}
 use Rattle.arj_law_cause.proofs.local.Homes.{any_front, home, named_began}
 use Rattle.arj_law_cause.proofs.local.Labels.{BeginsNone}
-use Rattle.arj_law_cause.proofs.local.Steps.{AreOwn, IsTaken, act_any, frame_any, restart_any, tick_any}
+use Rattle.arj_law_cause.proofs.local.Steps.{AreOwn, IsTaken, act_any, frame_any, restart_any, show_any, tick_any}
 use Rattle.arj_law_parts.proofs.coordinator.Trace.{Takes}
 use Rattle.arj_law_cause.specs.told.Local.{AreSteps, LeavesVoid, Moves, NoNodes, NoStep, Takes as TakesFrame, began_at}
 use Rattle.arj_law_cause.specs.told.Local.{begins_at}
@@ -54,6 +57,33 @@ itself n = grind (arith, nat_tests)
 pub last_steps : (ls : List Line) (e : Event) (after : ℕ) (last : List Body) → MayMeetLimit last → AreSteps ls e after last
 last_steps ls e after last met = ⊎_elim (λ is. subst (AreSteps ls e after) (sym is) (NoStep after))
     (λ is. subst (AreSteps ls e after) (sym is) (NoNodes after _ [] refl (NoStep after))) met
+
+-- numbers that rise from this one on
+abbrev Rise : ℕ → List ℕ → Type 0
+Rise from [] = ⊤
+Rise from (k ∷ ns) = (from ≤ k) × Rise (k + 1) ns
+
+rise_less : (from k : ℕ) (ns : List ℕ) → from ≤ k → Rise k ns → Rise from ns
+rise_less from k [] less up = tt
+rise_less from k (j ∷ ns) less up = (let at = up.0 in omega (arith, less, at), up.1)
+
+rise_on : (from m : ℕ) (ns : List ℕ) → Rise from ns → AllByRecursion (λ (j : ℕ). j < m) ns → from ≤ m → Rise from (ns ++ m ∷ [])
+rise_on from m [] up all less = (less, tt)
+rise_on from m (j ∷ ns) up all less = (up.0, rise_on (j + 1) m ns up.1 all.1 (let at = all.0 in omega (arith, at)))
+
+numbers_rise : (n : ℕ) → Rise 0 (numbers_to n) × AllByRecursion (λ (j : ℕ). j < suc n) (numbers_to n)
+numbers_rise zero = (tt, tt)
+numbers_rise (suc n) =
+    let r = numbers_rise n in
+    (rise_on 0 (suc n) (numbers_to n) r.0 r.1 (none_less (suc n)),
+    all_append (λ (j : ℕ). j < suc (suc n)) (numbers_to n) (suc n ∷ []) (more (numbers_to n) r.1) (next n, tt))
+  where
+    next : (n : ℕ) → suc n < suc (suc n)
+    next n = omega arith
+
+    more : (xs : List ℕ) → AllByRecursion (λ (j : ℕ). j < suc n) xs → AllByRecursion (λ (j : ℕ). j < suc (suc n)) xs
+    more [] all = tt
+    more (x ∷ xs) all = (let at = all.0 in omega (arith, at), more xs all.1)
 
 module _ (hd : Header) (form : HeaderFits hd) (m : Move) (p : Past) (w : World) (stops : IsStoppedInForm m)
     (s : shorts.Stands hd form p w) (right : Holds hd IsRight w) (on : w.over ≡ false) (bodies : List Body) where
@@ -207,6 +237,66 @@ module _ (hd : Header) (form : HeaderFits hd) (m : Move) (p : Past) (w : World) 
           (subst (λ j. Tells (AreOwn ls j) j n.disk (step t.header n input.Restart)) (placed k n there)
           (restart_any ls n t.header))) lines
 
+  -- ---- shows
+
+  abbrev Leads : Event → ℕ → List Body → Type 0
+  Leads e from bs = (rest : List Body) → ((j : ℕ) → AreSteps ls e j rest) → AreSteps ls e from (bs ++ rest)
+
+  right_now : Holds hd IsRight t
+  right_now =
+      let h = arms_hold hd IsRight m.falls w right in record {
+        sent = h.sent;
+        stands = record {
+          frames = h.stands.frames;
+          junk = h.stands.junk;
+          header = h.stands.header;
+          numbers = h.stands.numbers;
+          places = h.stands.places;
+          labels = h.stands.labels;
+        };
+        holds = h.holds;
+      }
+
+  shows : (x : ℕ) (ns : List ℕ) (v : World) → Holds hd IsRight v → (from : ℕ) → Rise from ns →
+      Adds (Leads (event.Show x) from) v (show_all x ns v)
+  shows x [] v h from up = record { added = []; lines = sym (append-nil v.lines); event = refl; has = λ rest each. each from }
+  shows x (k ∷ ns) v h from up = by (world.is_up_at k v) refl (λ u holds low rise. shows x ns u holds low rise)
+    where
+      e : Event
+      e = event.Show x
+
+      one : (o : Option Node) → at_place k v.nodes ≡ o → world.is_up o ≡ true → Adds (AreOwn ls k) v (steps k (input.Show x) v)
+      one None there is = absurd (cc is)
+      one (Some n) there is = node_adds (AreOwn ls k) k (input.Show x) v n there
+          (subst (λ j. Tells (AreOwn ls j) j n.disk (step v.header n (input.Show x))) (h.stands.numbers k n there) (show_any ls n v.header x))
+
+      both : (u z : World) → Adds (AreOwn ls k) v u → Adds (Leads e (k + 1)) u z → Adds (Leads e from) v z
+      both u z a b = record {
+        added = a.added ++ b.added;
+        lines = b.lines ∙ (λ i. a.lines i ++ numbered (a.event i) b.added)
+            ∙ append_assoc v.lines (numbered v.event a.added) (numbered v.event b.added)
+            ∙ ap (λ xs. v.lines ++ xs) (sym (map-append (λ (c : Body). record { event = v.event; body = c }) a.added b.added));
+        event = b.event ∙ a.event;
+        has = λ rest each. subst (AreSteps ls e from) (sym (append_assoc a.added b.added rest))
+            (Moves from k a.added (b.added ++ rest) up.0 refl a.has (b.has rest each));
+      }
+
+      by : (b : Bool) → world.is_up_at k v ≡ b →
+          ((u : World) → Holds hd IsRight u → (low : ℕ) → Rise low ns → Adds (Leads e low) u (show_all x ns u)) →
+          Adds (Leads e from) v (show_all x ns (cond b (steps k (input.Show x) v) v))
+      by false off rest = rest v h from (rise_less from (k + 1) ns (let at = up.0 in omega (arith, at)) up.1)
+      by true is rest = both (steps k (input.Show x) v) (show_all x ns (steps k (input.Show x) v)) (one (at_place k v.nodes) refl is)
+          (rest (steps k (input.Show x) v) (steps_hold hd IsRight (keeps_asked hd IsRight (right_keep hd)) k (input.Show x) v h tt)
+          (k + 1) up.1)
+
+  showed : (x : ℕ) → w.lines ++ block t.event bodies ≡ (limited (show_all x (node_numbers t) t)).lines →
+      AreSteps ls (event.Show x) 0 bodies
+  showed x lines =
+      let e = event.Show x in
+      let v = show_all x (node_numbers t) t in
+      let l = limit_parts (Leads e 0) t v bodies (shows x (node_numbers t) t right_now 0 (numbers_rise t.header.nodes).0) lines in
+      subst (AreSteps ls e 0) (sym l.parts) (l.has l.last (λ j. last_steps ls e j l.last (may_meet (Leads e 0) t v bodies l)))
+
   -- ---- events that write lines of their own alone
 
   -- nothing stands between them and their end
@@ -303,6 +393,7 @@ module _ (hd : Header) (form : HeaderFits hd) (m : Move) (p : Past) (w : World) 
   ran_so (event.Deliver k) a one x none isnt lines = delivered k none lines
   ran_so (event.Tick n) a one x none isnt lines = ticked n lines none
   ran_so (event.Restart n) a one x none isnt lines = restarted n lines none
+  ran_so (event.Show y) a one x none isnt lines = showed y lines
   ran_so e a one x none isnt lines = absurd (cc one)
 
   pub event_so : (e : Event) (a : Arm) → is_at_one e ≡ true → ShortEventsStep hd p e bodies → Came e a t bodies → AreSteps ls e 0 bodies

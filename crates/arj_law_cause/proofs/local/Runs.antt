@@ -1,4 +1,4 @@
--- Of every run: the lines of an event at one node come from steps of nodes.
+-- Of every run: the lines of an event, any but a settle and a quiesce, come from steps of nodes.
 use Rattle.arj_law_parts.proofs.Words
 use Words.{Header, List, Body, Event, Move, World, journal_by, world_from, false, ◌≡◌}
 use Rattle.arj_promise.specs.Runs.{HeaderFits}

@@ -226,3 +226,41 @@ module _ (lines : List Line) (n : Node) where
       by (Some t) is = subst (Tells (AreOwn lines k) k n.disk) (sym (ap (step_unless hd input.Restart n)
           (ap (input.refusal_at hd input.Restart) is) ∙ ap (step_of hd input.Restart n) is))
           (tells_own lines k n.disk (input.does_nothing n) refl refl)
+
+  -- it shows what it holds
+  shown_own : (line : Option ObjectState → List Effect) (u : Uid) (d : Pair) → ((o : Option ObjectState) → Own lines k (line o)) →
+      Own lines k (shown line u d (holder_of u d))
+  shown_own line u d each = by (holder_of u d)
+    where
+      by : (o : Option Uid) → Own lines k (shown line u d o)
+      by (Some holder) = refl
+      by None = each (held_at u d)
+
+  show_own : (x : ℕ) → Own lines k (show_outs k x n.disk)
+  show_own x = all_both (says (is_own_line lines k)) (show_entry k x n.disk.names)
+      (shown (copy_line k x) (object x) n.disk.store (holder_of (object x) n.disk.store))
+      (by (k == 1) refl) (shown_own (copy_line k x) (object x) n.disk.store copy)
+    where
+      copy : (o : Option ObjectState) → Own lines k (copy_line k x o)
+      copy None = refl
+      copy (Some z) = λ i. itself lines k i && true
+
+      line : (k == 1) ≡ true → (o : Option ObjectState) → Own lines k (entry_line x o)
+      line one None = refl
+      line one (Some z) = λ i. one i && true
+
+      by : (b : Bool) → (k == 1) ≡ b →
+          Own lines k (cond b (shown (entry_line x) (entry x) n.disk.names (holder_of (entry x) n.disk.names)) [])
+      by true one = shown_own (entry_line x) (entry x) n.disk.names (line one)
+      by false one = refl
+
+  pub show_any : (hd : Header) (x : ℕ) → Tells (AreOwn lines k) k n.disk (step hd n (input.Show x))
+  show_any hd x = by n.live refl
+    where
+      by : (o : Option Parts) → n.live ≡ o → Tells (AreOwn lines k) k n.disk (step hd n (input.Show x))
+      by None is = subst (Tells (AreOwn lines k) k n.disk) (sym (ap (step_unless hd (input.Show x) n)
+          (ap (input.refusal_at hd (input.Show x)) is) ∙ ap (step_of hd (input.Show x) n) is))
+          (tells_own lines k n.disk (input.does_nothing n) refl refl)
+      by (Some t) is = subst (Tells (AreOwn lines k) k n.disk) (sym (ap (step_unless hd (input.Show x) n)
+          (ap (input.refusal_at hd (input.Show x)) is) ∙ ap (step_of hd (input.Show x) n) is))
+          (tells_own lines k n.disk (input.show_step x n) (show_own x) (show_own x))

@@ -101,13 +101,12 @@ pub data AreSteps (lines : List Line) (e : Event) : ℕ → List Body → Type 0
 abbrev pub LocalStep : Header → Past → Event → List Body → Type 0
 LocalStep hd past e bodies = AreSteps (past.lines ++ block (past.count + 1) bodies) e 0 bodies
 
--- one node at most works on the event
+-- the event isn't one in which frame after frame is delivered
 abbrev pub is_at_one : Event → Bool
 is_at_one event.Settle = false
 is_at_one event.Quiesce = false
-is_at_one (event.Show x) = false
 is_at_one e = true
 
--- so it is of each event at one node
+-- so it is of each event but those
 abbrev pub LocalAtOne : Header → Past → Event → List Body → Type 0
 LocalAtOne hd past e bodies = is_at_one e ≡ true → LocalStep hd past e bodies

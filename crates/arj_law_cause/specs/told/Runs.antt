@@ -19,6 +19,6 @@ LinesHaveCauses = (hd : Header) (r : Run hd) → IsInForm hd r → JHasCauses hd
 abbrev pub RunsFollow : Type 0
 RunsFollow = (hd : Header) (r : Run hd) → IsInForm hd r → Follows hd r.start (run_events hd r) (journal_by hd r)
 
--- and of each event at one node each line is of what a node did in that step
+-- and each line of an event, any but a settle and a quiesce, is of what a node did in it
 abbrev pub LinesAreLocal : Type 0
 LinesAreLocal = (hd : Header) (r : Run hd) → IsInForm hd r → Runs (LocalAtOne hd) r.start (run_events hd r) (journal_by hd r)
