@@ -45,7 +45,7 @@ use Rattle.arj_law_cause.proofs.local.Steps.{AreOwn, IsTaken, act_any, frame_any
 use Rattle.arj_law_parts.proofs.coordinator.Trace.{Takes}
 use Rattle.arj_law_cause.specs.told.Local.{AreSteps, LeavesVoid, Moves, NoNodes, NoStep, Takes as TakesFrame, began_at}
 use Rattle.arj_law_cause.specs.told.Local.{begins_at}
-use Rattle.arj_law_cause.specs.told.Local.{is_at_one, is_for, is_own_line, moves_node}
+use Rattle.arj_law_cause.specs.told.Local.{settles_none, is_for, is_own_line, moves_node}
 
 none_less : (n : ℕ) → 0 ≤ n
 none_less n = omega arith
@@ -268,7 +268,8 @@ module _ (hd : Header) (form : HeaderFits hd) (m : Move) (p : Past) (w : World) 
       one : (o : Option Node) → at_place k v.nodes ≡ o → world.is_up o ≡ true → Adds (AreOwn ls k) v (steps k (input.Show x) v)
       one None there is = absurd (cc is)
       one (Some n) there is = node_adds (AreOwn ls k) k (input.Show x) v n there
-          (subst (λ j. Tells (AreOwn ls j) j n.disk (step v.header n (input.Show x))) (h.stands.numbers k n there) (show_any ls n v.header x))
+          (subst (λ j. Tells (AreOwn ls j) j n.disk (step v.header n (input.Show x)))
+          (h.stands.numbers k n there) (show_any ls n v.header x))
 
       both : (u z : World) → Adds (AreOwn ls k) v u → Adds (Leads e (k + 1)) u z → Adds (Leads e from) v z
       both u z a b = record {
@@ -361,7 +362,7 @@ module _ (hd : Header) (form : HeaderFits hd) (m : Move) (p : Past) (w : World) 
 
   -- ---- each event at one node
 
-  ran_so : (e : Event) (a : Arm) → is_at_one e ≡ true → ShortEventsStep hd p e bodies → refused_by_any e t ≡ None →
+  ran_so : (e : Event) (a : Arm) → settles_none e ≡ true → ShortEventsStep hd p e bodies → refused_by_any e t ≡ None →
       is_refused bodies ≡ false → w.lines ++ block t.event bodies ≡ (limited (happens e a t)).lines → AreSteps ls e 0 bodies
   ran_so (event.Begin l n) a one x none isnt lines = let e = event.Begin l n in short_so e refl none (accepted_of e isnt (x.short refl))
   ran_so (event.Serial l n) a one x none isnt lines = let e = event.Serial l n in short_so e refl none (accepted_of e isnt (x.short refl))
@@ -396,6 +397,6 @@ module _ (hd : Header) (form : HeaderFits hd) (m : Move) (p : Past) (w : World) 
   ran_so (event.Show y) a one x none isnt lines = showed y lines
   ran_so e a one x none isnt lines = absurd (cc one)
 
-  pub event_so : (e : Event) (a : Arm) → is_at_one e ≡ true → ShortEventsStep hd p e bodies → Came e a t bodies → AreSteps ls e 0 bodies
+  pub event_so : (e : Event) (a : Arm) → settles_none e ≡ true → ShortEventsStep hd p e bodies → Came e a t bodies → AreSteps ls e 0 bodies
   event_so e a one x (IsRefused c refused is) = subst (AreSteps ls e 0) (sym is) (NoNodes 0 (body.Refused c) [] refl (NoStep 0))
   event_so e a one x (IsRun none isnt lines) = ran_so e a one x none isnt lines

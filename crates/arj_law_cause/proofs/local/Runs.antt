@@ -14,20 +14,20 @@ use Rattle.arj_promise.specs.Runs.{IsStoppedInForm}
 use Rattle.arj_promise.specs.Starts.{IsFormed}
 use Rattle.arj_start.specs.Start.{Start}
 use Rattle.arj_law_cause.proofs.local.Events.{event_so}
-use Rattle.arj_law_cause.specs.told.Local.{LocalAtOne}
+use Rattle.arj_law_cause.specs.told.Local.{LocalBesideSettles}
 use Rattle.arj_law_cause.specs.told.Runs.{LinesAreLocal}
 
 module _ (hd : Header) (form : HeaderFits hd) where
   abbrev Inv : Past → World → Type 0
   Inv p w = shorts.Stands hd form p w × Holds hd IsRight w
 
-  goes : (m : Move) (p : Past) (w : World) → IsStoppedInForm m → Inv p w → w.over ≡ false → Outcome (LocalAtOne hd) Inv m p w
+  goes : (m : Move) (p : Past) (w : World) → IsStoppedInForm m → Inv p w → w.over ≡ false → Outcome (LocalBesideSettles hd) Inv m p w
   goes m p w stops s on = by (shorts.goes hd form m p w stops s.0 on)
     where
       arm : Words.Arm
       arm = let a = m.asked in a.arm
 
-      by : Outcome (ShortEventsStep hd) (shorts.Stands hd form) m p w → Outcome (LocalAtOne hd) Inv m p w
+      by : Outcome (ShortEventsStep hd) (shorts.Stands hd form) m p w → Outcome (LocalBesideSettles hd) Inv m p w
       by (Ended over event lines) = Ended over event lines
       by (Went bodies step after) =
           let came = refusing.goes_with hd form m p w stops (let z = s.0 in z.base) on bodies (let b = after.base in b.base) in
@@ -39,7 +39,7 @@ module _ (hd : Header) (form : HeaderFits hd) where
 
 pub lines_local : LinesAreLocal
 lines_local hd r form =
-    runs_along (LocalAtOne hd) (Inv hd form.header) IsStoppedInForm
+    runs_along (LocalBesideSettles hd) (Inv hd form.header) IsStoppedInForm
     (λ p w s. (let z = s.0 in z.base.base.lines)) (λ p w s. (let z = s.0 in z.base.base.count))
     (λ m p w stops s on. goes hd form.header m p w stops s on) r.start r.moves (world_from hd r.start) form.stops
     (first hd form.header r.start r.formed)

@@ -102,11 +102,11 @@ abbrev pub LocalStep : Header → Past → Event → List Body → Type 0
 LocalStep hd past e bodies = AreSteps (past.lines ++ block (past.count + 1) bodies) e 0 bodies
 
 -- the event isn't one in which frame after frame is delivered
-abbrev pub is_at_one : Event → Bool
-is_at_one event.Settle = false
-is_at_one event.Quiesce = false
-is_at_one e = true
+abbrev pub settles_none : Event → Bool
+settles_none event.Settle = false
+settles_none event.Quiesce = false
+settles_none e = true
 
 -- so it is of each event but those
-abbrev pub LocalAtOne : Header → Past → Event → List Body → Type 0
-LocalAtOne hd past e bodies = is_at_one e ≡ true → LocalStep hd past e bodies
+abbrev pub LocalBesideSettles : Header → Past → Event → List Body → Type 0
+LocalBesideSettles hd past e bodies = settles_none e ≡ true → LocalStep hd past e bodies
