@@ -22,15 +22,14 @@ use Rattle.arj_nodes.specs.AsMachine.{all_nodes}
 use Rattle.arj_nodes.specs.declared.all_nodes.AllNodes.{AllNodes}
 use Rattle.arj_law_nodes.specs.nodes.Banks.{BankFrontsShow, BankLimitsShow, BanksShow}
 use Rattle.arj_law_nodes.specs.nodes.Last.{EndsBehind}
-use Rattle.arj_law_nodes.specs.nodes.Promised.{ShowsThePromise}
+use Rattle.arj_law_nodes.specs.nodes.Promised.{ShowsThePromise, marks_of, run_of_task}
 use Rattle.arj_law_nodes.specs.nodes.Readings.{Reads, files_at, readings_of}
 use Rattle.arj_bank.specs.Balances.{files_in, is_number, no_files, node_files, reader}
-use Rattle.arj_promise.specs.Excluded.{DisksAreInTime}
+use Rattle.arj_promise.specs.Excluded.{DisksAreInTimeFrom}
 use Rattle.arj_promise.specs.Disks.{DisksAre}
-use Rattle.arj_start.specs.Start.{none_written}
-use Rattle.arj_promise.specs.Runs.{from_format, world_by}
+use Rattle.arj_promise.specs.Runs.{world_by}
 use Rattle.arj_promise.specs.Runs.{see}
-use Rattle.arj_model.specs.Clean.{Clean}
+use Rattle.arj_model.specs.Clean.{CleanFrom}
 use Rattle.arj_promise.specs.Resting.{HoldAllStates}
 use Rattle.arj_protocol.specs.Tree.{at_place}
 use Rattle.std.specs.Prelude.{Bool, true, if◌then◌else◌, length, slice_get}
@@ -69,21 +68,22 @@ promise_stays d read t over journal mid after since p =
     let r = p.run in
     record {
       run = record {
+        formed = r.formed;
         moves = r.moves;
         are = r.are;
         form = r.form;
         last = r.last;
         outside = r.outside;
         lines = r.lines;
-        disks = subst (λ disks. DisksAre (let a = t in see [] (world_by a.header (from_format a.header r.moves))) disks) (sym same) r.disks;
+        disks = subst (λ disks. DisksAre (see [] (world_by t.header (run_of_task t r.formed r.moves))) disks) (sym same) r.disks;
       };
       serial = p.serial;
       book = p.book;
       held = p.held;
       outcome = p.outcome;
-      clean = subst (λ disks. Clean (let a = t in a.header) journal disks) (sym same) p.clean;
-      in_time = subst (λ disks. DisksAreInTime (let a = t in a.header) (let a = t in length a.events) journal disks) (sym same) p.in_time;
-      rest = λ going idle. subst (λ disks. HoldAllStates (let a = t in a.header) none_written journal disks) (sym same) (p.rest going idle);
+      clean = subst (λ disks. CleanFrom (let a = t in a.header) (marks_of t) journal disks) (sym same) p.clean;
+      in_time = subst (λ disks. DisksAreInTimeFrom (let a = t in a.header) (marks_of t) (let a = t in length a.events) journal disks) (sym same) p.in_time;
+      rest = λ going idle. subst (λ disks. HoldAllStates (let a = t in a.header) (marks_of t) journal disks) (sym same) (p.rest going idle);
     }
 
 module _ {C D : Type 0} (c : core.Ghosts C) (d : disk.Ghosts D) where

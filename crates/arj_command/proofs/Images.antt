@@ -38,6 +38,7 @@ use Rattle.arj_nodes.specs.declared.all_nodes.AllNodes.{AllNodes}
 use Rattle.arj_saving.proofs.Crashing.{few_nodes}
 use Rattle.arj_saving.proofs.Scripts.{script_ran}
 use Rattle.arj_saved.specs.Files.{is_quiet}
+use Rattle.arj_law_nodes.proofs.nodes.Turning.{task_form}
 use Rattle.arj_saving.specs.Saved.{AllStopped, HasImage, HasUp, RanScript, Saves, header_of, image_of, script_events, stopped_header}
 use Rattle.arj_saving.specs.Stops.{ComesSoFar, EndsAtLimit, MeetsLimit, Moment, RunsMore, crashes, moment, no_labels, up_node, up_nodes}
 use Rattle.arj_script.specs.Input.{events_of}
@@ -122,12 +123,10 @@ module _ {C D : Type 0} (c : core.Ghosts C) (d : disk.Ghosts D) (read : Reads) (
         let header = header_in_form r.done t.forms r.place t.header t.read runs.1 in
         let few : length ups ≤ 16 = let most = header.nodes in omega (arith, ap length u.ups_are, few_nodes before.journal (let h = t.header in h.nodes), most.1) in
         let form = subst (AllByRecursion CrashInForm) (sym u.ups_are ∙ cut) (ups_in_form before.journal (let h = t.header in h.nodes) (let most = header.nodes in most.1)) in
-        record {
-          header = header;
-          events = all_append EventInForm (events_of t.forms) (crashes done) (events_in_form r.done t.forms _ r.place t.read)
-              (crashes_in_form done (front_in_form done rest form));
-          few = omega (arith, length-append (events_of t.forms) (crashes done), length-map done (λ n. event.Crash n), few_events t.forms, t.counted, t.within, few, ap length cut, length-append done rest);
-        }
+        task_form first t.header (events_of t.forms ++ crashes done) header
+        (all_append EventInForm (events_of t.forms) (crashes done) (events_in_form r.done t.forms _ r.place t.read)
+        (crashes_in_form done (front_in_form done rest form)))
+        (omega (arith, length-append (events_of t.forms) (crashes done), length-map done (λ n. event.Crash n), few_events t.forms, t.counted, t.within, few, ap length cut, length-append done rest))
 
     crash_facts : (done rest : List ℕ) → ups ≡ done ++ rest → (now : Moment D (AllNodes C)) → RunsMore (all_nodes c d) (crashes done) before now →
         (journal : List Line) → EndsBehind now.journal journal → CrashesShow c d read given first before ups u done now journal
@@ -155,7 +154,7 @@ module _ {C D : Type 0} (c : core.Ghosts C) (d : disk.Ghosts D) (read : Reads) (
       (script_ran (all_nodes c d) given first s.before sc) in
       let files_are = ap (λ (i : Image). i.files) has.image_is in
       subst IsCalm (sym has.image_is) (subst (λ n. IsCalm (image_of hd n last.journal has.files)) (sym whole.counted)
-      (resting t now has.files (crash_task show given first s.before s.ups s.up s.ups [] (sym (append-nil s.ups)))
+      (resting first hd (script_events (all_nodes c d) given first s.before sc ++ crashes s.ups) now has.files (crash_task show given first s.before s.ups s.up s.ups [] (sym (append-nil s.ups)))
       (subst (λ over. RanAll c d t over now) a.going whole) s.down has.files_are (sym (ap is_quiet files_are) ∙ quiet)))
 
   -- the script's run, however it ended

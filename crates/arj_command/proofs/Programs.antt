@@ -36,6 +36,7 @@ use Rattle.arj_progrun.specs.Alone.{MeansItsCalls}
 use Rattle.arj_progrun.specs.Schedule.{Given, Schedule, Standing}
 use Rattle.arj_progrun.specs.declared.report.ReportLine.{ReportLine}
 use Rattle.arj_promise.specs.Runs.{Move, from_format, journal_by}
+use Rattle.arj_law_nodes.proofs.nodes.Turning.{at_format, task_form}
 use Rattle.arj_world.specs.Stands.{hand}
 
 -- ---- words
@@ -96,7 +97,7 @@ module _ {C D : Type 0} (c : core.Ghosts C) (d : disk.Ghosts D) (read : Reads) (
       let t = task first header r.events in
       facts_of c d read laws t nodes rack r.lines journal last r.ran
       (promises_stay d read t nodes.over r.lines journal rack last
-      (show t nodes.over (hand nodes.world rack r.lines) (record { header = r.header_form; events = r.form; few = few }) r.ran))
+      (show t nodes.over (hand nodes.world rack r.lines) (task_form first header r.events r.header_form r.form few) r.ran))
 
   -- What was run of a plan, as a run of the protocol: its journal, and its trace.
   record IsPlanRun (plan : Plan) (trace : List Given) (journal : List Line) : Type 0 where
@@ -112,11 +113,11 @@ module _ {C D : Type 0} (c : core.Ghosts C) (d : disk.Ghosts D) (read : Reads) (
       let h = s.stepped in
       let few : length q.events ≤ 1000000 = let most = q.few in omega (arith, most) in
       let moved = laws.moves (task first plan.header q.events) (let n = r.machine in n.over) (hand (let n = r.machine in n.world) now.rack q.lines)
-      (record { header = q.header_form; events = q.form; few = few }) q.ran in
+      (task_form first plan.header q.events q.header_form q.form few) q.ran in
       record {
         moves = moved.moves;
         run = record {
-          form = moved.form;
+          form = at_format plan.header moved.formed moved.moves moved.form;
           events = sym h.events ∙ sym (take-length q.events) ∙ (λ i. take (moved.event i) (sym moved.are i));
           journal = sym h.journal ∙ moved.journal;
           numbered = h.numbered;

@@ -11,7 +11,6 @@ use Rattle.arj_nodes.specs.declared.all_nodes.AllNodes.{AllNodes}
 use Rattle.arj_law_nodes.specs.nodes.Last.{EndsBehind}
 use Rattle.arj_law_nodes.specs.nodes.Promised.{ShowsThePromise}
 use Rattle.arj_law_nodes.specs.nodes.Readings.{Reads}
-use Rattle.arj_start.specs.Start.{fresh}
 use Rattle.arj_world.specs.Stands.{hand}
 
 -- What a run leaves behind its last event: the nodes, the disks, and the journal, which may have a line outside of events behind it.
@@ -35,7 +34,7 @@ pub record Facts {C D : Type 0} (c : core.Ghosts C) (d : disk.Ghosts D) (read : 
   -- the promise, by the journal's lines and by the files of the disks
   pub promise : ShowsThePromise d read t (let n = now.nodes in n.over) now.journal now.rack
   -- these lines say why they are so, by the header, the events and themselves alone
-  pub causes : (let a = t in TellsItsCauses a.header fresh a.events lines)
+  pub causes : (let a = t in TellsItsCauses a.header a.start a.events lines)
   -- each of them is in form
   pub form : AreInForm lines
   -- each `halted` line has its cause

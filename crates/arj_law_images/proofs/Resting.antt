@@ -1,7 +1,7 @@
 -- Runs of nodes that end at rest make calm images.
 use Rattle.arj_law_parts.proofs.Words
 use Words.{◌≡◌, ◌∙◌, ◌≤◌, ◌<◌, ◌+◌, ◌-◌, ◌==◌, ◌&&◌, ◌++◌, ℕ, zero, suc, Bool, true, false, cond, List, [], ◌∷◌, length, Option, Some, None, refl, sym}
-use Words.{ap, subst, arith, nat_tests, nat_le, is_some, option_map, unwrap_or, slice_get, and_parts, Body, Header, Line, Node, Pair, Uid, World}
+use Words.{ap, subst, arith, nat_tests, nat_le, is_some, option_map, unwrap_or, slice_get, and_parts, Body, Event, Header, Line, Node, Pair, Uid, World}
 use Words.{pair_in, at_place, world_by, see, most_events, IsReadingOf, DisksAre, state_bytes, eqb-true}
 use Words.body
 use Rattle.arj_audit.specs.Calm.{IsCalm}
@@ -21,7 +21,7 @@ use Rattle.arj_law_images.proofs.Gathered.{AreAmong, are_among, each_file, file_
 use Rattle.arj_law_images.proofs.Gathered.{no_pend, no_record}
 use Rattle.arj_law_images.proofs.Rests.{runs_rest}
 use Rattle.arj_law_images.specs.{Images.AreDown, Images.IsImageOf, Saving.AreSaved, Saving.RestingRunsMakeCalmImages, Saving.SavesFiles}
-use Rattle.arj_law_nodes.proofs.nodes.Turning.{nodes_move}
+use Rattle.arj_law_nodes.proofs.nodes.Turning.{at_format, nodes_move}
 use Rattle.arj_law_nodes.specs.nodes.Cores.{SaysReadings}
 use Rattle.arj_law_nodes.specs.nodes.Readings.{Reads, files_at}
 use Rattle.arj_law_nodes.specs.nodes.Turns.{HasMoved, IsTaskInForm}
@@ -33,8 +33,8 @@ use Rattle.arj_law_runs.specs.addresses.Addresses.{AreAddressed, IsNode}
 use Rattle.arj_law_store.specs.store.Files.{IsPairOf}
 use Rattle.arj_lock.proofs.Members.{In, in_from}
 use Rattle.arj_model.specs.Refusals.{frame_from, frame_step, is_down}
-use Rattle.arj_nodes.specs.AllNodes.{RanAll, Task, world_after}
-use Rattle.arj_promise.specs.Runs.{from_format}
+use Rattle.arj_nodes.specs.AllNodes.{RanAll, Task, task, world_after}
+use Rattle.arj_promise.specs.Runs.{IsInForm, from_format}
 use Rattle.arj_protocol.specs.Effect.{held_at}
 use Rattle.arj_saved.specs.Files.{are_in_place, inc_at, is_in_place, is_inc, is_quiet, is_unfinished}
 use Rattle.arj_saved.specs.Rows.{is_segment}
@@ -81,16 +81,20 @@ none_up lines (suc m) n is least most = by (n == suc m) refl (λ less. none_up l
 test_both : (a b : Bool) → a ≡ true → b ≡ true → (a && b) ≡ true
 test_both a b x y = λ i. x i && y i
 
-module _ {C D : Type 0} (c : core.Ghosts C) (d : disk.Ghosts D) (read : Reads) (says : SaysReadings c read) (saves : SavesFiles c read) (t : Task D)
-    (now : Hand C D) (files : List NodeFile) (form : IsTaskInForm t) (ran : RanAll c d t false now) where
-  abbrev hd : Header
-  hd = t.header
+module _ {C D : Type 0} (c : core.Ghosts C) (d : disk.Ghosts D) (read : Reads) (says : SaysReadings c read) (saves : SavesFiles c read) (began : List D)
+    (hd : Header) (events : List Event) (now : Hand C D) (files : List NodeFile) (form : IsTaskInForm (task began hd events))
+    (ran : RanAll c d (task began hd events) false now) where
+  abbrev t : Task D
+  t = task began hd events
 
   abbrev h : HasMoved c d t false now
   h = nodes_move c d t false now form ran
 
   abbrev r : Run hd
   r = from_format hd h.moves
+
+  in_form : IsInForm hd r
+  in_form = at_format hd h.formed h.moves h.form
 
   abbrev w : World
   w = world_by hd (from_format hd h.moves)
@@ -137,7 +141,7 @@ module _ {C D : Type 0} (c : core.Ghosts C) (d : disk.Ghosts D) (read : Reads) (
   at_node : (i : ℕ) → i < hd.nodes → At i
   at_node i less =
       let s = ran.stands in
-      let v = world_after t.header ran.turns in
+      let v = world_after hd fresh ran.turns in
       let same : now.kept.header.nodes ≡ hd.nodes = ap (λ (x : Header). x.nodes) ran.header in
       by (is_there i now.kept.cores (exactly i hd.nodes now.kept.header.nodes (length now.kept.cores) less same s.nodes.cores_count))
       (is_there i now.disks (at_least i hd.nodes now.kept.header.nodes (length now.disks) less same s.nodes.disks_count))
@@ -150,7 +154,7 @@ module _ {C D : Type 0} (c : core.Ghosts C) (d : disk.Ghosts D) (read : Reads) (
       at_least i h k n less a b = omega (arith, less, a, b)
 
       by : (one : C) × (slice_get now.kept.cores i ≡ Some one) → (on : D) × (slice_get now.disks i ≡ Some on) →
-          (m : Node) × (slice_get (let v = world_after t.header ran.turns in v.nodes) i ≡ Some m) → At i
+          (m : Node) × (slice_get (let v = world_after hd fresh ran.turns in v.nodes) i ≡ Some m) → At i
       by (one, a) (on, b) (m, e) = record {
         on = on;
         there = b;
@@ -316,7 +320,7 @@ module _ {C D : Type 0} (c : core.Ghosts C) (d : disk.Ghosts D) (read : Reads) (
         below j k l = omega (arith, l)
 
     abbrev image : Image
-    image = image_of hd (length t.events) now.journal files
+    image = image_of hd (length events) now.journal files
 
     is_image : IsImageOf hd h.moves image
     is_image = record {
@@ -328,13 +332,14 @@ module _ {C D : Type 0} (c : core.Ghosts C) (d : disk.Ghosts D) (read : Reads) (
     }
 
     all_down : AreDown w
-    all_down = journals_tell_who_is_down hd h.moves h.form h.is_over (λ n node.
+    all_down = journals_tell_who_is_down hd h.moves in_form h.is_over (λ n node.
         let range = in_range n node in
         ap (λ ls. is_down fresh ls n) (sym h.journal) ∙ none_up now.journal hd.nodes n down range.0 range.1)
 
     calm : IsCalm image
-    calm = stopped_images_are_calm hd h.moves image h.form is_image all_down in_place
+    calm = stopped_images_are_calm hd h.moves image in_form is_image all_down in_place
 
 pub resting_runs : {C D : Type 0} (c : core.Ghosts C) (d : disk.Ghosts D) (read : Reads) → SaysReadings c read → SavesFiles c read →
     RestingRunsMakeCalmImages c d
-resting_runs c d read says saves t now files form ran down are quiet = calm c d read says saves t now files form ran down are quiet
+resting_runs c d read says saves began hd events now files form ran down are quiet =
+    calm c d read says saves began hd events now files form ran down are quiet

@@ -13,9 +13,9 @@ use Rattle.arj_image.specs.declared.image.NodeFile.{NodeFile}
 use Rattle.arj_law_nodes.specs.nodes.Readings.{Reads}
 use Rattle.arj_law_nodes.specs.nodes.Turns.{IsTaskInForm}
 use Rattle.arj_model.specs.Disks.{Reading}
-use Rattle.arj_nodes.specs.AllNodes.{RanAll, Task}
+use Rattle.arj_nodes.specs.AllNodes.{RanAll, task}
 use Rattle.arj_protocol.specs.Step.{Node}
-use Rattle.arj_protocol.specs.Words.{Header}
+use Rattle.arj_protocol.specs.Words.{Event, Header}
 use Rattle.arj_saved.specs.Files.{is_quiet}
 use Rattle.arj_saving.specs.Gathered.{AreFilesOf, node_files}
 use Rattle.arj_saving.specs.Saved.{image_of}
@@ -37,10 +37,10 @@ pub record AreSaved (file : FileMap) (read : Reading) : Type 0 where
 abbrev pub SavesFiles : {C : Type 0} → core.Ghosts C → Reads → Type 0
 SavesFiles {C} c read = (header : Header) (one : C) (file : FileMap) (n : Node) → c.stands header one file n → AreSaved file (read file)
 
--- What all nodes ran that are down behind it by the journal, with no frame too many: where nothing prepared is among the files of their disks,
+-- What all nodes ran from a format that are down behind it by the journal, with no frame too many: where nothing prepared is among the files of their disks,
 -- and no record, the image of these is calm.
 abbrev pub RestingRunsMakeCalmImages : {C D : Type 0} → core.Ghosts C → disk.Ghosts D → Type 0
-RestingRunsMakeCalmImages {C} {D} c d = (t : Task D) (now : Hand C D) (files : List NodeFile) → IsTaskInForm t → RanAll c d t false now →
-    up_nodes now.journal (let h = t.header in h.nodes) ≡ [] →
-    AreFilesOf (node_files d.file now.disks) (let h = t.header in h.nodes) files → is_quiet files ≡ true →
-    IsCalm (image_of t.header (length t.events) now.journal files)
+RestingRunsMakeCalmImages {C} {D} c d = (first : List D) (hd : Header) (events : List Event) (now : Hand C D) (files : List NodeFile) →
+    IsTaskInForm (task first hd events) → RanAll c d (task first hd events) false now → up_nodes now.journal hd.nodes ≡ [] →
+    AreFilesOf (node_files d.file now.disks) hd.nodes files → is_quiet files ≡ true →
+    IsCalm (image_of hd (length events) now.journal files)

@@ -17,7 +17,7 @@ use Rattle.arj_protocol.specs.Words.{Body, Event, Header, Line}
 use Rattle.arj_protocol.specs.Words.body
 use Rattle.arj_protocol.specs.Words.event
 use Rattle.arj_protocol.specs.Words.which
-use Rattle.arj_protocol.specs.World.{World, armed, counted, format, is_node, limited, numbered, reasons, run_event, run_unless, says}
+use Rattle.arj_protocol.specs.World.{World, armed, counted, is_node, limited, numbered, reasons, run_event, run_unless, says, world_from}
 use Rattle.arj_nodes.specs.AllNodes.{RanAll, Task, TellTurns, world_after}
 use Rattle.arj_nodes.specs.Told.{ArmsAreTold, HaltsHaveCause, arm_line, arm_lines, crashed_in, stops_told, tells_arm, tells_stop}
 use Rattle.arj_world.specs.Stands.{Hand}
@@ -45,9 +45,9 @@ rest_counted : (t : Turn) (ts : List Turn) (w : World) → Counted (t ∷ ts) w 
 rest_counted t ts w is = let first = first_counted t ts w is in omega (arith, is, first)
 
 run_counted : {C D : Type 0} (c : core.Ghosts C) (d : disk.Ghosts D) (t : Task D) (over : Bool) (now : Hand C D) →
-    (r : RanAll c d t over now) → Counted r.turns (format t.header)
+    (r : RanAll c d t over now) → Counted r.turns (world_from t.header t.start)
 run_counted c d t over now r =
-    let all : (all_turned r.turns (format t.header)).event ≡ length r.turns =
+    let all : (all_turned r.turns (world_from t.header t.start)).event ≡ length r.turns =
     r.stands.event ∙ (r.counted ∙ (ap length (sym r.are) ∙ length-map r.turns (λ s. s.event))) in
     omega (arith, all)
 
@@ -182,7 +182,7 @@ module _ {D : Type 0} (d : disk.Ghosts D) where
 pub halts_told : {C D : Type 0} (c : core.Ghosts C) (d : disk.Ghosts D) (t : Task D) (over : Bool) (now : Hand C D) →
     RanAll c d t over now → HaltsHaveCause d t now.journal now.disks
 halts_told {C} {D} c d t over now r =
-    let all = all_turns_told d r.turns (format t.header) [] r.formed now.disks refl (run_counted c d t over now r) r.told in
+    let all = all_turns_told d r.turns (world_from t.header t.start) [] r.formed now.disks refl (run_counted c d t over now r) r.told in
     let journal : now.journal ≡ all.0 = sym r.stands.lines ∙ all.1 in
     let told : TellAll d t.header.nodes t.events r.formed now.disks now.journal =
     subst (TellAll d t.header.nodes t.events r.formed now.disks) (sym journal) (subst (λ es. TellAll d t.header.nodes es r.formed now.disks all.0) r.are all.2) in
@@ -284,7 +284,7 @@ all_arms (t ∷ ts) w counts =
 pub arms_told : {C D : Type 0} (c : core.Ghosts C) (d : disk.Ghosts D) (t : Task D) (over : Bool) (now : Hand C D) → RanAll c d t over now →
     ArmsAreTold t.header.nodes t.events now.journal
 arms_told c d t over now r =
-    ap (filter tells_arm) (sym r.stands.lines) ∙ (all_arms r.turns (format t.header) (run_counted c d t over now r) ∙ ap (arm_lines t.header.nodes 1) r.are)
+    ap (filter tells_arm) (sym r.stands.lines) ∙ (all_arms r.turns (world_from t.header t.start) (run_counted c d t over now r) ∙ ap (arm_lines t.header.nodes 1) r.are)
 
 -- ---- a line behind a journal, which tells of neither
 

@@ -14,8 +14,9 @@ use Rattle.arj_disk.specs.declared.slot.Outcome.{Outcome}
 use Rattle.arj_journal.specs.declared.event.Event.{Event}
 use Rattle.arj_journal.specs.declared.header.Header.{Header}
 use Rattle.arj_loop.specs.declared.limits.TheConstants.{MOST_EVENTS}
-use Rattle.arj_nodes.specs.AllNodes.{AreFresh, RanAll, TellTurns, task, world_after}
-use Rattle.arj_protocol.specs.World.{World, format}
+use Rattle.arj_nodes.specs.AllNodes.{RanAll, Task, TellTurns, task_from, with_event, world_after}
+use Rattle.arj_protocol.specs.World.{World, world_from}
+use Rattle.arj_start.specs.Start.{Start}
 use Rattle.arj_world.specs.Arms.{arm_at, arms_at}
 use Rattle.arj_world.specs.Disks.{HaveMoved, HaveNotStopped, Moves}
 use Rattle.arj_world.specs.Happens.{RunsOver, RunsTo}
@@ -82,13 +83,11 @@ module _ {C D : Type 0} (c : core.Ghosts C) (d : disk.Ghosts D) where
       }
 
   -- where no frame was too many, the nodes stand for what the protocol made
-  stands_now : (first : List D) (header : Header) (events : List Event) (now : Hand C D) →
-      (r : RanAll c d (task first header events) false now) → Stands c d.file now (world_after header r.turns)
-  stands_now first header events now r = as_it_is now (world_after header r.turns) r.is_over r.stands
+  stands_now : (t : Task D) (now : Hand C D) → (r : RanAll c d t false now) → Stands c d.file now (world_after t.header t.start r.turns)
+  stands_now t now r = as_it_is now (world_after t.header t.start r.turns) r.is_over r.stands
 
-  pub stands_some : (first : List D) (header : Header) (events : List Event) (now : Hand C D) →
-      RanAll c d (task first header events) false now → StandsSome c d.file now
-  stands_some first header events now r = (world_after header r.turns, stands_now first header events now r)
+  pub stands_some : (t : Task D) (now : Hand C D) → RanAll c d t false now → StandsSome c d.file now
+  stands_some t now r = (world_after t.header t.start r.turns, stands_now t now r)
 
   -- a turn more is told too
   told_more : (turns : List Turn) (t : Turn) (w : World) (before between after : List D) → TellTurns d w turns before between
@@ -113,103 +112,99 @@ module _ {C D : Type 0} (c : core.Ghosts C) (d : disk.Ghosts D) where
           some_one a b (sym at ∙ (sym (moved.others i past) ∙ then_at)) in subst (λ x. d.arms x ≤ d.arms a + length events) same (omega arith)
 
   -- no disk was armed too often
-  pub arms_left : (first : List D) (header : Header) (events : List Event) (over : Bool) (now : Hand C D) →
-      RanAll c d (task first header events) over now → now.kept.event < MOST_EVENTS → All (λ one. d.arms one < 4294967295) now.disks
-  arms_left first header events over now r room k one less =
+  pub arms_left : (t : Task D) (over : Bool) (now : Hand C D) → RanAll c d t over now → now.kept.event < MOST_EVENTS →
+      All (λ one. d.arms one < 4294967295) now.disks
+  arms_left t over now r room k one less =
       let at : slice_get now.disks k ≡ Some (get_or now.disks k one) = slice_get-get_or now.disks k one less in
-      let was = is_there k first (omega (arith, less, r.disks.count)) in
-      let few : d.arms was.0 < 1000 = all_at (λ some. d.arms some < 1000) k first was.0 r.fresh was.1 in
-      let rose : d.arms (get_or now.disks k one) ≤ d.arms was.0 + length events =
-      armed_few (header.nodes) events first now.disks k was.0 (get_or now.disks k one) r.disks was.1 at in
+      let was = is_there k t.first (omega (arith, less, r.disks.count)) in
+      let few : d.arms was.0 < 1000 = all_at (λ some. d.arms some < 1000) k t.first was.0 r.fresh was.1 in
+      let rose : d.arms (get_or now.disks k one) ≤ d.arms was.0 + length t.events =
+      armed_few t.header.nodes t.events t.first now.disks k was.0 (get_or now.disks k one) r.disks was.1 at in
       omega (arith, few, rose, r.counted, room)
 
-  -- the nodes are formatted
-  pub ran_first : (header : Header) (kept : Kept C) (first rack : List D) → AreFresh d first →
-      Stands c d.file (hand kept rack []) (format header) → HaveMoved d header.nodes [] first rack → HaveNotStopped d first rack →
-      RanAll c d (task first header []) false (hand kept rack [])
-  ran_first header kept first rack fresh s moved unstopped = record {
+  -- the nodes are those of a start, and no event was run
+  pub ran_none : (header : Header) (st : Start) (kept : Kept C) (first rack : List D) → All (λ one. d.arms one < 1000) first →
+      Stands c d.file (hand kept rack []) (world_from header st) → HaveMoved d header.nodes [] first rack → HaveNotStopped d first rack →
+      RanAll c d (task_from first header st []) false (hand kept rack [])
+  ran_none header st kept first rack fresh s moved unstopped = record {
     turns = [];
     are = refl;
     works = tt;
     header = sym s.header;
-    stands = opened (hand kept rack []) (format header) s;
+    stands = opened (hand kept rack []) (world_from header st) s;
     is_over = refl;
     counted = sym s.event;
     disks = moved;
-    fresh = fresh.1;
+    fresh = fresh;
     formed = rack;
     unstopped = unstopped;
     told = refl;
   }
 
   -- a turn more, by what it left
-  ran_turn : (first : List D) (header : Header) (events : List Event) (e : Event) (over : Bool) (old new : Hand C D) (t : Turn) →
-      (r : RanAll c d (task first header events) false old) → t.event ≡ e → FallsAtWorks t
-      → Stands c d.file new (unmarked (turned t (world_after header r.turns))) →
-      (let w = turned t (world_after header r.turns) in w.over) ≡ over
+  ran_turn : (t : Task D) (e : Event) (over : Bool) (old new : Hand C D) (turn : Turn) →
+      (r : RanAll c d t false old) → turn.event ≡ e → FallsAtWorks turn
+      → Stands c d.file new (unmarked (turned turn (world_after t.header t.start r.turns))) →
+      (let w = turned turn (world_after t.header t.start r.turns) in w.over) ≡ over
       → new.kept.header ≡ old.kept.header → new.kept.event ≡ old.kept.event + 1 →
       HaveMoved d old.kept.header.nodes (e ∷ []) old.disks new.disks →
       TellsStops d old.kept.header.nodes (crashed_by e) old.disks new.disks old.journal new.journal
-      → RanAll c d (task first header (events ++ e ∷ [])) over new
-  ran_turn first header events e over old new t r is works s is_over same counted moved tells =
-      let w = world_after header r.turns in
-      let more = turned_more r.turns t (format header) in
-      let size = length-append events (e ∷ []) in record {
-        turns = r.turns ++ t ∷ [];
-        are = map-append (λ s. s.event) r.turns (t ∷ []) ∙ (λ i. r.are i ++ is i ∷ []);
-        works = all_append FallsAtWorks r.turns (t ∷ []) r.works (works, tt);
+      → RanAll c d (with_event t e) over new
+  ran_turn t e over old new turn r is works s is_over same counted moved tells =
+      let w = world_after t.header t.start r.turns in
+      let more = turned_more r.turns turn (world_from t.header t.start) in
+      let size = length-append t.events (e ∷ []) in record {
+        turns = r.turns ++ turn ∷ [];
+        are = map-append (λ s. s.event) r.turns (turn ∷ []) ∙ (λ i. r.are i ++ is i ∷ []);
+        works = all_append FallsAtWorks r.turns (turn ∷ []) r.works (works, tt);
         header = same ∙ r.header;
         stands = subst (λ w. Stands c d.file new (unmarked w)) (sym more) s;
         is_over = ap (λ w. w.over) more ∙ is_over;
         counted = omega (arith, counted, r.counted, size);
-        disks = moved_then d header.nodes old.kept.header.nodes events (e ∷ []) first old.disks new.disks (ap (λ h. h.nodes) r.header) r.disks moved;
+        disks = moved_then d t.header.nodes old.kept.header.nodes t.events (e ∷ []) t.first old.disks new.disks
+            (ap (λ h. h.nodes) r.header) r.disks moved;
         fresh = r.fresh;
         formed = r.formed;
         unstopped = r.unstopped;
-        told = told_more r.turns t (format header) r.formed old.disks new.disks r.told
-            (subst (λ f. TellsStops d w.header.nodes (crashed_by f) old.disks new.disks w.lines (turned t w).lines) (sym is)
-            (subst (λ h. TellsStops d h.nodes (crashed_by e) old.disks new.disks w.lines (turned t w).lines) (sym r.stands.header)
-            (subst (λ ls. TellsStops d old.kept.header.nodes (crashed_by e) old.disks new.disks ls (turned t w).lines) (sym r.stands.lines)
+        told = told_more r.turns turn (world_from t.header t.start) r.formed old.disks new.disks r.told
+            (subst (λ f. TellsStops d w.header.nodes (crashed_by f) old.disks new.disks w.lines (turned turn w).lines) (sym is)
+            (subst (λ h. TellsStops d h.nodes (crashed_by e) old.disks new.disks w.lines (turned turn w).lines) (sym r.stands.header)
+            (subst (λ ls. TellsStops d old.kept.header.nodes (crashed_by e) old.disks new.disks ls (turned turn w).lines) (sym r.stands.lines)
             (subst (TellsStops d old.kept.header.nodes (crashed_by e) old.disks new.disks old.journal) (sym s.lines) tells))));
       }
 
   -- what is in hand has stayed
-  pub ran_still : (first : List D) (header : Header) (events : List Event) (over : Bool) (old new : Hand C D) → new.kept ≡ old.kept →
-      new.disks ≡ old.disks → new.journal ≡ old.journal → RanAll c d (task first header events) over old →
-      RanAll c d (task first header events) over new
-  ran_still first header events over old new kept disks journal r =
-      subst (RanAll c d (task first header events) over) (λ i. hand (sym kept i) (sym disks i) (sym journal i)) r
+  pub ran_still : (t : Task D) (over : Bool) (old new : Hand C D) → new.kept ≡ old.kept → new.disks ≡ old.disks →
+      new.journal ≡ old.journal → RanAll c d t over old → RanAll c d t over new
+  ran_still t over old new kept disks journal r =
+      subst (RanAll c d t over) (λ i. hand (sym kept i) (sym disks i) (sym journal i)) r
 
   -- an event was run
-  pub ran_more : (first : List D) (header : Header) (events : List Event) (e : Event) (old new : Hand C D) → RunsTo c d.file e old new →
+  pub ran_more : (t : Task D) (e : Event) (old new : Hand C D) → RunsTo c d.file e old new →
       new.kept.header ≡ old.kept.header → new.kept.event ≡ old.kept.event + 1
       → HaveMoved d old.kept.header.nodes (e ∷ []) old.disks new.disks →
       TellsStops d old.kept.header.nodes (crashed_by e) old.disks new.disks old.journal new.journal →
-      RanAll c d (task first header events) false old → RanAll c d (task first header (events ++ e ∷ [])) false new
-  ran_more first header events e old new runs same counted moved tells r =
-      let w = world_after header r.turns in
-      let ran = runs w (stands_now first header events old r) in
-      let t : Turn = record { event = e; falls = ran.falls } in
+      RanAll c d t false old → RanAll c d (with_event t e) false new
+  ran_more t e old new runs same counted moved tells r =
+      let w = world_after t.header t.start r.turns in
+      let ran = runs w (stands_now t old r) in
+      let turn : Turn = record { event = e; falls = ran.falls } in
       let s = ran.stands in
-      ran_turn first header events e false old new t r refl ran.works (opened new (turned t w) s) s.over same counted moved tells
+      ran_turn t e false old new turn r refl ran.works (opened new (turned turn w) s) s.over same counted moved tells
 
   -- an event was run, and a frame didn't fit
-  pub ran_over : (first : List D) (header : Header) (events : List Event) (e : Event) (old new : Hand C D) → RunsOver c d.file e old new →
+  pub ran_over : (t : Task D) (e : Event) (old new : Hand C D) → RunsOver c d.file e old new →
       new.kept.header ≡ old.kept.header → new.kept.event ≡ old.kept.event + 1
       → HaveMoved d old.kept.header.nodes (e ∷ []) old.disks new.disks →
       TellsStops d old.kept.header.nodes (crashed_by e) old.disks new.disks old.journal new.journal →
-      RanAll c d (task first header events) false old → RanAll c d (task first header (events ++ e ∷ [])) true new
-  ran_over first header events e old new runs same counted moved tells r =
-      let ran = runs (world_after header r.turns) (stands_now first header events old r) in
+      RanAll c d t false old → RanAll c d (with_event t e) true new
+  ran_over t e old new runs same counted moved tells r =
+      let ran = runs (world_after t.header t.start r.turns) (stands_now t old r) in
+      let turn : Turn = record { event = e; falls = ran.falls } in
       let s = ran.stands in
-      ran_turn first header events e true old new (record {
-        event = e;
-        falls =
-            ran.falls;
-      }) r refl ran.works s.stands s.over same counted moved tells
+      ran_turn t e true old new turn r refl ran.works s.stands s.over same counted moved tells
 
   -- what a call did to the disks of the nodes that it has, it did to those of the header
-  pub moved_by : (first : List D) (header : Header) (events more : List Event) (over : Bool) (now : Hand C D) (rack : List D) →
-      RanAll c d (task first header events) over now → HaveMoved d now.kept.header.nodes more now.disks rack →
-      HaveMoved d header.nodes more now.disks rack
-  moved_by first header events more over now rack r moved = subst (λ h. HaveMoved d h.nodes more now.disks rack) r.header moved
+  pub moved_by : (t : Task D) (more : List Event) (over : Bool) (now : Hand C D) (rack : List D) → RanAll c d t over now →
+      HaveMoved d now.kept.header.nodes more now.disks rack → HaveMoved d t.header.nodes more now.disks rack
+  moved_by t more over now rack r moved = subst (λ h. HaveMoved d h.nodes more now.disks rack) r.header moved

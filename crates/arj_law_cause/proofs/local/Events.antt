@@ -74,9 +74,10 @@ rise_on from m (j ∷ ns) up all less = (up.0, rise_on (j + 1) m ns up.1 all.1 (
 numbers_rise : (n : ℕ) → Rise 0 (numbers_to n) × AllByRecursion (λ (j : ℕ). j < suc n) (numbers_to n)
 numbers_rise zero = (tt, tt)
 numbers_rise (suc n) =
-    let r = numbers_rise n in
-    (rise_on 0 (suc n) (numbers_to n) r.0 r.1 (none_less (suc n)),
-    all_append (λ (j : ℕ). j < suc (suc n)) (numbers_to n) (suc n ∷ []) (more (numbers_to n) r.1) (next n, tt))
+    let r = numbers_rise n in (
+      rise_on 0 (suc n) (numbers_to n) r.0 r.1 (none_less (suc n)),
+      all_append (λ (j : ℕ). j < suc (suc n)) (numbers_to n) (suc n ∷ []) (more (numbers_to n) r.1) (next n, tt),
+    )
   where
     next : (n : ℕ) → suc n < suc (suc n)
     next n = omega arith

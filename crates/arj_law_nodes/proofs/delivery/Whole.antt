@@ -4,7 +4,7 @@ use Words.{◌≡◌, ◌&&◌, ℕ, true, false, List, [], ◌∷◌, ◌∙◌
 use Words.{frame_number, is_node, run_event, Move, moved, world_by}
 use Words.event
 use Words.frame_no
-use Rattle.arj_law_nodes.proofs.Terms.{IsWhole, HeaderFits, Turn, all_turned, turned, AreForNodes, Delivers, IsTaken}
+use Rattle.arj_law_nodes.proofs.Terms.{IsWhole, Turn, all_turned, turned, AreForNodes, Delivers, IsTaken}
 use Rattle.arj_law_nodes.proofs.delivery.Delivered.{delivery_taken, each_for_node}
 use Rattle.arj_law_parts.proofs.moves.{Happens.arms_hold, Moving.moves_asked}
 use Rattle.arj_law_parts.proofs.steps.{Spoken.event_writes, Whole.runs_whole, Whole.whole_with}
@@ -12,7 +12,7 @@ use Rattle.arj_law_parts.specs.{moves.Keeps.Holds, steps.Writes.Owes, steps.Writ
 use Rattle.arj_law_runs.proofs.addresses.Runs.{event_within, first_within, kept, within_of}
 use Rattle.arj_law_runs.specs.addresses.Addresses.{AreAddressed}
 use Rattle.arj_start.specs.Start.{fresh}
-use Rattle.arj_promise.specs.{Runs.Run, Starts.fresh_is_formed}
+use Rattle.arj_promise.specs.{Runs.HeaderFits, Runs.Run, Starts.fresh_is_formed}
 use Rattle.arj_world.proofs.Owns.{answers_without, runs_whole as turns_whole}
 use Rattle.arj_world.specs.Turns.{asked, with_arms}
 

@@ -12,7 +12,7 @@ use Rattle.arj_bank.specs.Bank.{AreOfBank}
 use Rattle.arj_gen.proofs.Counts.{all_counted, bank_fits}
 use Rattle.arj_gen.specs.Bank.{bank_header}
 use Rattle.arj_journal.specs.ScriptText.{event_text}
-use Rattle.arj_law_nodes.proofs.nodes.{Ending.promises_stay, Turning.runs_show}
+use Rattle.arj_law_nodes.proofs.nodes.{Ending.promises_stay, Turning.runs_show, Turning.task_form}
 use Rattle.arj_law_nodes.specs.nodes.{Banks.BankFrontsShow, Banks.BankLimitsShow, Banks.BanksShow, Turns.IsTaskInForm}
 
 front_form : (done rest : List Event) → AllByRecursion EventInForm (done ++ rest) → AllByRecursion EventInForm done
@@ -22,11 +22,9 @@ front_form (e ∷ done) rest all = (all.0, front_form done rest all.1)
 -- a front of the bank's events is a task in form
 bank_task : {D : Type 0} (n : ℕ) (first : List D) (events done rest : List Event) → AreOfBank n events → events ≡ done ++ rest →
     IsTaskInForm (task first bank_header done)
-bank_task n first events done rest are cut = record {
-  header = bank_fits;
-  events = front_form done rest (subst (AllByRecursion EventInForm) cut are.form);
-  few = omega (arith, length-append done rest, ap length cut, length-map events event_text, ap length are.texts, all_counted n);
-}
+bank_task n first events done rest are cut =
+    task_form first bank_header done bank_fits (front_form done rest (subst (AllByRecursion EventInForm) cut are.form))
+    (omega (arith, length-append done rest, ap length cut, length-map events event_text, ap length are.texts, all_counted n))
 
 module _ {C D : Type 0} (c : core.Ghosts C) (d : disk.Ghosts D) (read : Reads) (says : SaysReadings c read) where
   pub banks_show : BanksShow c d read

@@ -13,7 +13,7 @@ use Terms.{CleanFrom, Disks, first_values, KeepsTheBook, Task, EndsBehind, IsLas
 use Terms.disk
 use Rattle.arj_law.proofs.{Common.all_map, Reading.quiet_calls, Reading.quiet_serial, Reading.quiet_tops, Reading.read_none}
 use Rattle.arj_law.specs.Growth.{is_quiet, more}
-use Rattle.arj_law_nodes.specs.nodes.Promised.{PromisesStay}
+use Rattle.arj_law_nodes.specs.nodes.Promised.{PromisesStay, marks_of, run_of_task}
 use Rattle.arj_model.proofs.Read.{acts-append}
 use Rattle.arj_model.specs.Actions.{Act, Placed, acts, acts_after, committed, committed_of, is_committed, recovered, recovered_of, top_in}
 use Rattle.arj_model.specs.Actions.{chain_in, has_end, root_in}
@@ -25,8 +25,8 @@ use Rattle.arj_model.specs.Last.{changer_from, changers, entry_from, entry_paylo
 use Rattle.arj_model.specs.Last.{increasing, is_among}
 use Rattle.arj_model.specs.Last.{joins_by, joins_of, last_from, leaves_of, listed, listed_after, listed_from, object_line}
 use Rattle.arj_model.specs.Last.{same_list, serial_tops, servers_of_line, state_after, stores_of_line, uid_of_id, Inclusion}
-use Rattle.arj_start.specs.Start.{Marks, format_at, none_written}
-use Rattle.arj_promise.specs.{Excluded.DisksAreInTimeFrom, Runs.from_format}
+use Rattle.arj_start.specs.Start.{Marks, format_at}
+use Rattle.arj_promise.specs.{Excluded.DisksAreInTimeFrom}
 use Rattle.arj_model.specs.Nested.{IsFreedFor, commit_place, nested_less}
 use Rattle.arj_model.specs.Outcome.{has_cause_to_abort, is_behind_decision, is_said}
 use Rattle.arj_model.specs.Serial.{Answers, Values, arrange, lex, run, serial_calls, serial_key, serial_less, root_of, top_place}
@@ -410,21 +410,22 @@ module _ (lines : List Line) (l : Line) (is : ends_run l.body ≡ true) where
       ShowsThePromise d read t over lines rack → ShowsThePromise d read t over (more lines l) rack
   promise_more d read t over rack shows = record {
     run = let r = shows.run in record {
+      formed = r.formed;
       moves = r.moves;
       are = r.are;
       form = r.form;
       last = more r.last l;
       outside = one_more (λ (k : Line). ends_run k.body ≡ true) r.last l r.outside is;
-      lines = ap (λ ls. ls ++ l ∷ []) r.lines ∙ append_assoc (journal_by t.header (from_format t.header r.moves)) r.last (l ∷ []);
+      lines = ap (λ ls. ls ++ l ∷ []) r.lines ∙ append_assoc (journal_by t.header (run_of_task t r.formed r.moves)) r.last (l ∷ []);
       disks = r.disks;
     };
     serial = serial_more t.header shows.serial;
     book = book_more (first_values t.header) shows.book;
     held = holds_more shows.held;
     outcome = outcome_more shows.outcome;
-    clean = clean_more t.header none_written (readings_of d read rack) shows.clean;
-    in_time = time_more t.header none_written (length t.events) (readings_of d read rack) shows.in_time;
-    rest = λ going idle. rest_more t.header none_written (readings_of d read rack) (shows.rest going (idle_before t.events idle));
+    clean = clean_more t.header (marks_of t) (readings_of d read rack) shows.clean;
+    in_time = time_more t.header (marks_of t) (length t.events) (readings_of d read rack) shows.in_time;
+    rest = λ going idle. rest_more t.header (marks_of t) (readings_of d read rack) (shows.rest going (idle_before t.events idle));
   }
 
 -- what holds of a journal, and of one with such a line more, holds of one that ends so

@@ -1,20 +1,21 @@
 -- Turns of nodes are moves.
 use Rattle.arj_law_parts.proofs.Words
 use Words.{append-nil, ◌≡◌, ◌≤◌, ◌<◌, ◌++◌, ℕ, zero, suc, Bool, true, false, inl, inr, List, [], ◌∷◌, length, map, Option, Some, None, refl}
-use Words.{sym, ◌∙◌, ap, subst, arith, slice_get, AllByRecursion, length-map, Event, Line, Header, World, format, is_quiet, Move, all_moved}
+use Words.{sym, ◌∙◌, ap, subst, arith, slice_get, AllByRecursion, length-map, Event, Line, Header, World, is_quiet, Move, all_moved}
 use Words.{journal_by, moved, world_by, see, most_events, AreMovesInForm, AreStopsInForm, DisksAre, IsReadingOf, EndsAtRest, IsSerialBy}
-use Words.{DisksAreInTime, ShowsOneOutcome, HoldsEach, HoldAllStates}
+use Words.{ShowsOneOutcome, HoldsEach, HoldAllStates}
 use Words.event
 use Words.body
 use Rattle.arj_law_nodes.proofs.Terms
-use Terms.{⊎_elim, EventInForm, Task, task, Place, Start, events_of, hand, Turn, all_turned, turned, KeepsTheBook, Clean, Disks}
+use Terms.{⊎_elim, EventInForm, HeaderInForm, Task, task, Place, Start, events_of, hand, Turn, all_turned, turned, KeepsTheBook, CleanFrom, Disks}
 use Terms.{first_values, SaysReadings, EndsBehind, IsLast, ends_run, EndsIdle, ShowsThePromise, Reads, readings_of}
 use Terms.core
 use Terms.disk
 use Rattle.arj_law_nodes.proofs.nodes.Ending.{one_behind, promises_stay, two_behind}
 use Rattle.arj_law_nodes.proofs.nodes.Reading.{events_in_form, few_events, header_in_form}
-use Rattle.arj_law_nodes.specs.{nodes.Promised.event_of, nodes.Readings.files_at}
-use Rattle.arj_law_nodes.specs.nodes.Turns.{Came, ClosesMove, ClosesShow, HasMoved, NodesMove, RunsShow, ScriptsMove, SoFarShows, StopsShow}
+use Rattle.arj_law_nodes.specs.nodes.Promised.{event_of, marks_of, run_of_task}
+use Rattle.arj_law_nodes.specs.nodes.Readings.{files_at}
+use Rattle.arj_law_nodes.specs.nodes.Turns.{Came, ClosesMove, ClosesShow, HasMoved, IsTaskInForm, NodesMove, RunsShow, ScriptsMove, SoFarShows, StopsShow}
 use Rattle.arj_law_nodes.specs.nodes.Turns.{as_move}
 use Rattle.arj_law_parts.proofs.moves.Moving.{more_moves}
 use Rattle.arj_law_promise.proofs.{settling.Idle.quiesce_said, statement.Keeping.firsts_held, statement.Keeping.quiet_end}
@@ -23,9 +24,12 @@ use Rattle.arj_law_runs.proofs.resting.GiveUps.{over_before}
 use Rattle.arj_loop.specs.{Input.Arrived, Input.script_of, Replayed.EndsSo, declared.ending.End.End, declared.machine.Machine.Ghosts}
 use Rattle.arj_loop.specs.Running.{MachineRuns, Stage, Why, events_run, last_body, last_lines}
 use Rattle.arj_nodes.specs.{AllNodes.world_after, AsMachine.all_nodes, declared.all_nodes.AllNodes.AllNodes}
-use Rattle.arj_promise.specs.Runs.{header_fits}
+use Rattle.arj_start.specs.Start as start
 use Rattle.arj_start.specs.Start.{none_written}
-use Rattle.arj_promise.specs.{Promise.KeepsThePromise, Runs.from_format}
+use Rattle.arj_promise.specs.{Excluded.DisksAreInTimeFrom, Promise.KeepsThePromise, Runs.IsInForm, Runs.from_format}
+use Rattle.arj_promise.specs.Runs.{header_fits}
+use Rattle.arj_promise.specs.Starts.{IsFormed, fresh_is_formed}
+use Rattle.arj_protocol.specs.World.{world_from}
 use Rattle.arj_script.specs.declared.limits.TheConstants.{SCRIPT_LINES}
 use Rattle.arj_world.proofs.Stepping.{is_there}
 use Rattle.arj_world.specs.{Stands.Hand, Stands.Stands, Turns.FallsAtWorks}
@@ -83,13 +87,15 @@ stopped (t ∷ ts) all = ((omega arith, all.0), stopped ts all.1)
 
 pub nodes_move : {C D : Type 0} (c : core.Ghosts C) (d : disk.Ghosts D) → NodesMove c d
 nodes_move {C} {D} c d t over now form r =
-    let w = world_after t.header r.turns in
-    let same : w ≡ world_by t.header (from_format t.header (map as_move r.turns)) = turns_move r.turns (format t.header) in record {
+    let w = world_after t.header t.start r.turns in
+    let same : w ≡ world_by t.header (run_of_task t form.formed (map as_move r.turns)) =
+    turns_move r.turns (world_from t.header t.start) in record {
+      formed = form.formed;
       moves = map as_move r.turns;
       are = same_events r.turns ∙ r.are;
       form = record {
-        header = header_fits t.header form.header;
-        held = firsts_held t.header none_written form.header;
+        header = form.header;
+        held = form.held;
         events = in_form r.turns (subst (AllByRecursion EventInForm) (sym r.are) form.events);
         stops = stopped r.turns r.works;
         few = few (length (map as_move r.turns)) (length r.turns) (length (map (λ (s : Turn). s.event) r.turns)) (length t.events)
@@ -104,14 +110,28 @@ nodes_move {C} {D} c d t over now form r =
     few : (a b m e : ℕ) → a ≡ b → m ≡ b → m ≡ e → e ≤ most_events → a ≤ most_events
     few a b m e x y z le = omega (arith, x, y, z, le)
 
+-- a run in form that begins as a format leaves things is one from a format
+pub at_format : (hd : Header) (formed : IsFormed hd start.fresh) (ms : List Move) →
+    IsInForm hd (record { start = start.fresh; formed = formed; moves = ms }) → IsInForm hd (from_format hd ms)
+at_format hd formed ms f = record { header = f.header; held = f.held; events = f.events; few = f.few; stops = f.stops }
+
+-- what is run from a format, under a header in form, is in form
+pub task_form : {D : Type 0} (first : List D) (hd : Header) (events : List Event) → HeaderInForm hd → AllByRecursion EventInForm events →
+    length events ≤ most_events → IsTaskInForm (task first hd events)
+task_form first hd events form all few = record {
+  header = header_fits hd form;
+  held = firsts_held hd none_written form;
+  formed = fresh_is_formed hd;
+  events = all;
+  few = few;
+}
+
 pub scripts_move : {C D : Type 0} (c : core.Ghosts C) (d : disk.Ghosts D) → ScriptsMove c d
 scripts_move {C} {D} c d first rack lines place at s nodes is =
     let runs = subst (MachineRuns (all_nodes c d) first rack s.forms place s.header at.journal) is s.machine_is in
-    nodes_move c d (task first s.header (events_of s.forms)) nodes.over (hand nodes.world rack at.journal) (record {
-      header = header_in_form lines s.forms place s.header s.read runs.1;
-      events = events_in_form lines s.forms Start place s.read;
-      few = few (length (events_of s.forms)) (length s.forms) at.count (few_events s.forms) s.counted s.within;
-    }) runs.2
+    nodes_move c d (task first s.header (events_of s.forms)) nodes.over (hand nodes.world rack at.journal) (task_form first s.header (events_of s.forms)
+    (header_in_form lines s.forms place s.header s.read runs.1) (events_in_form lines s.forms Start place s.read)
+    (few (length (events_of s.forms)) (length s.forms) at.count (few_events s.forms) s.counted s.within)) runs.2
   where
     few : (e f n : ℕ) → e ≤ f → n ≡ f → n ≤ SCRIPT_LINES → e ≤ most_events
     few e f n le is most = omega (arith, le, is, most)
@@ -128,13 +148,13 @@ split_last (m ∷ n ∷ ms) [] e is = absurd (cc is)
 split_last (m ∷ ms) (x ∷ es) e is = let r = split_last ms es e (cc is) in (m ∷ r.0, r.1, ap (λ ns. m ∷ ns) r.2, r.3)
 
 -- where a quiesce ends a run in which no frame was too many, a line within it stands last
-ends_said : (hd : Header) (ms front : List Move) (m : Move) → ms ≡ front ++ m ∷ [] → event_of m ≡ event.Quiesce →
-    (world_by hd (from_format hd ms)).over ≡ false →
-    (before : List Line) × (l : Line) × (journal_by hd (from_format hd ms) ≡ before ++ l ∷ []) × (ends_run l.body ≡ false)
-ends_said hd ms front m are is going =
-    let w : World = world_by hd (from_format hd front) in
-    let end : world_by hd (from_format hd ms) ≡ moved m w = ap (λ l. all_moved l (format hd)) are
-    ∙ more_moves front (m ∷ []) (format hd) in
+ends_said : (hd : Header) (st : start.Start) (ms front : List Move) (m : Move) → ms ≡ front ++ m ∷ [] → event_of m ≡ event.Quiesce →
+    (all_moved ms (world_from hd st)).over ≡ false →
+    (before : List Line) × (l : Line) × ((all_moved ms (world_from hd st)).lines ≡ before ++ l ∷ []) × (ends_run l.body ≡ false)
+ends_said hd st ms front m are is going =
+    let w : World = all_moved front (world_from hd st) in
+    let end : all_moved ms (world_from hd st) ≡ moved m w = ap (λ l. all_moved l (world_from hd st)) are
+    ∙ more_moves front (m ∷ []) (world_from hd st) in
     let last : (moved m w).over ≡ false = ap (λ (v : World). v.over) (sym end) ∙ going in
     let s = quiesce_said m.asked (record w { arms = m.falls }) is (over_before m w last) last in (
       s.0,
@@ -148,34 +168,35 @@ module _ {C D : Type 0} (c : core.Ghosts C) (d : disk.Ghosts D) (read : Reads) (
   moved_shows : (t : Task D) (over : Bool) (now : Hand C D) → HasMoved c d t over now → ShowsThePromise d read t over now.journal now.disks
   moved_shows t over now h = record {
     run = record {
+      formed = h.formed;
       moves = h.moves;
       are = h.are;
       form = h.form;
       last = [];
       outside = tt;
-      lines = h.journal ∙ sym (append-nil (journal_by t.header (from_format t.header h.moves)));
+      lines = h.journal ∙ sym (append-nil (journal_by t.header (run_of_task t h.formed h.moves)));
       disks = are;
     };
     serial = subst (IsSerialBy t.header) (sym h.journal) k.serial;
     book = subst (KeepsTheBook (first_values t.header)) (sym h.journal) k.book;
     held = subst HoldsEach (sym h.journal) k.held;
     outcome = subst ShowsOneOutcome (sym h.journal) k.outcome;
-    clean = subst (λ ls. Clean t.header ls disks) (sym h.journal) (k.clean disks are);
+    clean = subst (λ ls. CleanFrom t.header (marks_of t) ls disks) (sym h.journal) (k.clean disks are);
     in_time =
-        subst (λ (p : ℕ × List Line). DisksAreInTime t.header p.0 p.1 disks) (λ i. (sym h.event i, sym h.journal i)) (k.in_time disks are);
+        subst (λ (p : ℕ × List Line). DisksAreInTimeFrom t.header (marks_of t) p.0 p.1 disks) (λ i. (sym h.event i, sym h.journal i)) (k.in_time disks are);
     rest = at_rest;
   }
     where
-      k : KeepsThePromise t.header (from_format t.header h.moves)
-      k = runs_keep t.header (from_format t.header h.moves) h.form
+      k : KeepsThePromise t.header (run_of_task t h.formed h.moves)
+      k = runs_keep t.header (run_of_task t h.formed h.moves) h.form
 
       disks : Disks
       disks = readings_of d read now.disks
 
-      are : DisksAre (see [] (world_by t.header (from_format t.header h.moves))) disks
+      are : DisksAre (see [] (world_by t.header (run_of_task t h.formed h.moves))) disks
       are = h.readings read says
 
-      at_rest : over ≡ false → EndsIdle t.events now.journal → HoldAllStates t.header none_written now.journal disks
+      at_rest : over ≡ false → EndsIdle t.events now.journal → HoldAllStates t.header (marks_of t) now.journal disks
       at_rest going ends = by ends.last ends.outside ends.line
         where
           l : (front : List Move) × (m : Move) × (h.moves ≡ front ++ m ∷ []) × (event_of m ≡ event.Quiesce)
@@ -185,21 +206,21 @@ module _ {C D : Type 0} (c : core.Ghosts C) (d : disk.Ghosts D) (read : Reads) (
           quiet = record { event = ends.number; body = body.Quiet true }
 
           by : (last : List Line) → IsLast last → now.journal ≡ ends.front ++ quiet ∷ last →
-              HoldAllStates t.header none_written now.journal disks
+              HoldAllStates t.header (marks_of t) now.journal disks
           by [] out line =
-              let run = from_format t.header h.moves in
-              let rest : EndsAtRest t.header run = quiet_end t.header run (from_format t.header l.0) h.form (record {
+              let run = run_of_task t h.formed h.moves in
+              let rest : EndsAtRest t.header run = quiet_end t.header run (run_of_task t h.formed l.0) h.form (record {
                 last = l.1;
-                are = ap (from_format t.header) l.2;
+                are = ap (run_of_task t h.formed) l.2;
                 quiesces = l.3;
                 unlimited = h.is_over ∙ going;
                 front = ends.front;
                 number = ends.number;
                 line = sym h.journal ∙ line;
               }) in
-              subst (λ ls. HoldAllStates t.header none_written ls disks) (sym h.journal) (rest.last disks are)
+              subst (λ ls. HoldAllStates t.header (marks_of t) ls disks) (sym h.journal) (rest.last disks are)
           by (k ∷ []) out line =
-              let s = ends_said t.header h.moves l.0 l.1 l.2 l.3 (h.is_over ∙ going) in
+              let s = ends_said t.header t.start h.moves l.0 l.1 l.2 l.3 (h.is_over ∙ going) in
               let same : k ≡ s.1 =
               (one_behind (ends.front ++ quiet ∷ []) s.0 k s.1 (sym (line ∙ two_behind ends.front quiet k) ∙ h.journal ∙ s.2)).1 in
               let never : true ≡ false = sym out ∙ ap (λ (z : Line). ends_run z.body) same ∙ s.3 in

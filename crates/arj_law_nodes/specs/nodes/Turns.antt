@@ -4,7 +4,7 @@ use Rattle.std.proofs.Common.{inl, inr}
 use Rattle.std.specs.List.{AllByRecursion}
 use Rattle.arj_core.specs.declared.node.Core as core
 use Rattle.arj_disk.specs.declared.disk.Disk as disk
-use Rattle.arj_journal.specs.ScriptForm.{EventInForm, HeaderInForm}
+use Rattle.arj_journal.specs.ScriptForm.{EventInForm}
 use Rattle.arj_loop.specs.Input.{Arrived}
 use Rattle.arj_loop.specs.Replayed.{Answer, Closes, ComesSoFar, EndsSo, Outside, StopsShort}
 use Rattle.arj_loop.specs.Running as loop
@@ -16,16 +16,17 @@ use Rattle.arj_nodes.specs.declared.all_nodes.AllNodes.{AllNodes}
 use Rattle.arj_protocol.specs.Words.{Line}
 use Rattle.arj_script.specs.Grammar.{Place}
 use Rattle.arj_script.specs.Input.{events_of}
-use Rattle.arj_promise.specs.Runs.{Move, from_format, journal_by, world_by}
+use Rattle.arj_promise.specs.Runs.{FirstsAreHeld, HeaderFits, Move, journal_by, world_by}
 use Rattle.arj_promise.specs.Runs.{see}
 use Rattle.arj_world.specs.Stands.{Hand, hand}
 use Rattle.arj_world.specs.Turns.{Turn, asked}
 use Rattle.arj_promise.specs.Runs.{most_events}
 use Rattle.arj_promise.specs.Runs.{IsInForm}
 use Rattle.arj_promise.specs.Disks.{DisksAre}
+use Rattle.arj_promise.specs.Starts.{IsFormed}
 use Rattle.arj_law_nodes.specs.nodes.Cores.{SaysReadings}
 use Rattle.arj_law_nodes.specs.nodes.Last.{EndsBehind, IsLast}
-use Rattle.arj_law_nodes.specs.nodes.Promised.{ShowsThePromise, event_of}
+use Rattle.arj_law_nodes.specs.nodes.Promised.{ShowsThePromise, event_of, marks_of, run_of_task}
 use Rattle.arj_law_nodes.specs.nodes.Readings.{Reads, readings_of}
 
 -- ---- turns
@@ -36,23 +37,27 @@ as_move t = record { asked = asked t.event; falls = t.falls }
 
 -- ---- what is run
 
--- The header of what is run is in form, and so is each of its events, of which there are at most 1,000,000.
+-- The header of what is run is in form, with values that the states hold with which it begins, its start is formed, and each of its events is
+-- in form, of which there are at most 1,000,000.
 pub record IsTaskInForm {D : Type 0} (t : Task D) : Type 0 where
-  pub header : HeaderInForm t.header
+  pub header : HeaderFits t.header
+  pub held : FirstsAreHeld t.header (marks_of t)
+  pub formed : IsFormed t.header t.start
   pub events : AllByRecursion EventInForm t.events
   pub few : length t.events ≤ most_events
 
--- What is at hand is what a run in form from a format makes of these events: its journal, its count of events and whether it is over; and
+-- What is at hand is what a run in form from the task's start makes of its events: its journal, its count of events and whether it is over; and
 -- the disks are those of its nodes, in whichever way of reading files cores say so.
 pub record HasMoved {C D : Type 0} (c : core.Ghosts C) (d : disk.Ghosts D) (t : Task D) (over : Bool) (now : Hand C D) : Type 0 where
+  pub formed : IsFormed t.header t.start
   pub moves : List Move
   pub are : map event_of moves ≡ t.events
-  pub form : IsInForm t.header (from_format t.header moves)
-  pub journal : now.journal ≡ journal_by t.header (from_format t.header moves)
-  pub event : length t.events ≡ (let w = world_by t.header (from_format t.header moves) in w.event)
-  pub is_over : (let w = world_by t.header (from_format t.header moves) in w.over) ≡ over
+  pub form : IsInForm t.header (run_of_task t formed moves)
+  pub journal : now.journal ≡ journal_by t.header (run_of_task t formed moves)
+  pub event : length t.events ≡ (let w = world_by t.header (run_of_task t formed moves) in w.event)
+  pub is_over : (let w = world_by t.header (run_of_task t formed moves) in w.over) ≡ over
   pub readings : (read : Reads) → SaysReadings c read →
-      DisksAre (see [] (world_by t.header (from_format t.header moves))) (readings_of d read now.disks)
+      DisksAre (see [] (world_by t.header (run_of_task t formed moves))) (readings_of d read now.disks)
 
 -- so it is of all that nodes run over disks, whatever stops these make
 abbrev pub NodesMove : {C D : Type 0} → core.Ghosts C → disk.Ghosts D → Type 0
